@@ -1,0 +1,5 @@
+pub mod Value
+pub mod Order
+pub mod Whole
+pub mod Bound
+pub mod Sign

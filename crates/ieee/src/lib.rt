@@ -1,0 +1,11 @@
+// Arithmetic of IEEE 754 that every layer above shares: the definitions of specs/, the laws of proofs/, and the conversion of a whole number.
+ghost use mathlib.Core.Path.{_≡_};
+ghost use lib.IntN.{pos};
+ghost use lib.Ieee.{binary64, ofInt};
+
+// Rust's `n as f64`: the binary64 value nearest to n, for every n. (Rattle's own `as` stops at 2^53, where it would begin to round.)
+pub fn from_u64(n: u64) -> f64
+    ensures { λ r. ⌜ r ≡ ofInt binary64 (pos n) ⌝ }
+{
+    std::num::nearest_u64_to_f64(n)
+}

@@ -1,0 +1,3 @@
+pub mod TabulateLaw
+pub mod ListLaw
+pub mod FirstLaw

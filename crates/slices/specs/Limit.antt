@@ -1,0 +1,16 @@
+-- Values that a check of magnitude lets pass. Definitions only.
+use Prim.Native.Nat.{ℕ}
+use mathlib.Core.Bool.{Bool, not, _&&_}
+use mathlib.Core.List.{List}
+use lib.ListN.{length, getD}
+use lib.Ieee.{Float, nan, le, neg}
+use Rattle.slices.specs.declared.First.{First}
+use Rattle.slices.specs.First.{firstWhere}
+
+-- finite, with a finite limit, and at most the limit in size; false for a NaN
+abbrev pub within : Float → Float → Bool
+within limit x = le (neg limit) x && le x limit
+
+-- the first value that is not
+abbrev pub firstOutside : Float → List Float → First
+firstOutside limit xs = firstWhere (λ i. not (within limit (getD xs i nan))) (length xs)
