@@ -1,0 +1,4 @@
+pub mod Checks
+pub mod Fields
+pub mod Packing
+pub mod Steps

@@ -1,0 +1,4 @@
+pub mod Tests
+pub mod Valid
+pub mod Paper
+pub mod Facts

@@ -1,0 +1,27 @@
+-- Row by row: the sums of the columns over the rows passed. Assumes nothing.
+use mathlib.Core.Path.{_≡_}
+use Prim.Native.Nat.{ℕ, _+_, _*_}
+use native.Mathlib.Numerals.{add-one}
+use mathlib.Core.List.{List}
+use lib.ListN.{length, getD}
+use lib.Ieee.{Float, nan, binary64, add, mul}
+use Rattle.ieee.specs.Sum.{sumTo, plusZero}
+use Rattle.slices.specs.Lists.{tabulate}
+use Rattle.rotation.specs.Apply.{columnSum}
+use Rattle.slices.proofs.TabulateLaw.{length-tabulate, getD-tabulate, tabulate-ext}
+
+-- the sums of the columns over the first n rows
+abbrev pub columns : ℕ → List Float → List Float → ℕ → List Float
+columns d matrix input n = tabulate d (λ (c : ℕ). columnSum d matrix input c n)
+
+pub no-row : (d : ℕ) (matrix input : List Float) (n : ℕ) → n ≡ d → tabulate n (λ (c : ℕ). plusZero) ≡ columns d matrix input 0
+unfolding sumTo
+no-row d matrix input n e = rw e
+
+-- one more row
+pub next-row : (d : ℕ) (matrix input : List Float) (row at : ℕ) (l : List Float) → at ≡ row * d → l ≡ columns d matrix input row
+    → tabulate (length l) (λ (c : ℕ). add binary64 (getD l c nan) (mul binary64 (getD matrix (at + c) nan) (getD input row nan))) ≡ columns d matrix input (row + 1)
+unfolding sumTo
+next-row d matrix input row at l a h =
+    rw (h, a, length-tabulate d (λ (c : ℕ). columnSum d matrix input c row), add-one)
+    (tabulate-ext d _ _ (λ i b. rw (getD-tabulate d (λ (c : ℕ). columnSum d matrix input c row) i nan b)))
