@@ -1,0 +1,5 @@
+pub mod CellsLaw
+pub mod DonorLaw
+pub mod FitLaw
+pub mod WorkLaw
+pub mod TallyLaw

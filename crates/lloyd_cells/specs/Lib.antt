@@ -1,0 +1,4 @@
+pub mod Cells
+pub mod Repair
+pub mod Update
+pub mod Work

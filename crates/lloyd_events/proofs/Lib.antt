@@ -1,0 +1,4 @@
+pub mod Again
+pub mod Args
+pub mod Lent
+pub mod Locals

@@ -1,0 +1,4 @@
+pub mod NumberLaw
+pub mod TurnLaw
+pub mod DonorFacts
+pub mod RepairLaw

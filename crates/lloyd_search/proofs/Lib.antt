@@ -1,0 +1,6 @@
+pub mod Parts
+pub mod ShapeLaw
+pub mod NearestLaw
+pub mod LimitLaw
+pub mod FiniteLaw
+pub mod AnswersLaw

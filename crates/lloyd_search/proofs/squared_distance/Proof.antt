@@ -1,0 +1,66 @@
+-- `lloyd_search::squared_distance` meets its contract: the sum is that of the coordinates passed. Assumes nothing.
+use mathlib.Core.Path.{_≡_, refl, sym, ap, _∙_}
+use Prim.Native.Nat.{ℕ, _≤_, _-_}
+use native.Mathlib.Omega.{arith}
+use native.Mathlib.Numerals.{add-one}
+use lib.ListN.{length}
+use lib.Ieee.{ofBits}
+use borrow.Author.Needs.{needs}
+use Rattle.ieee.specs.Sum.{sumTo}
+use Rattle.lloyd_search.specs.Distance.{distance, vectorOf}
+use Rattle.lloyd_search.proofs.squared_distance.Statement.{statement}
+use Rattle.lloyd_search.proofs.squared_distance.Tie as tie
+
+abbrev Inv-loop : tie.InvT-loop
+Inv-loop a b sum₀ j₀ sum j = (j ≤ length a) × (sum ≡ distance j (vectorOf a) (vectorOf b))
+
+abbrev μ-loop : tie.MeasureT-loop
+μ-loop a b sum₀ j₀ sum j = length a - j
+
+loop-holds : tie.Need-loop-holds Inv-loop μ-loop
+unfolding ofBits sumTo
+loop-holds c = (omega arith, refl)
+
+mul-delta : tie.Need-mul-delta Inv-loop μ-loop
+mul-delta c = search needs
+
+shared-slice-read-delta : tie.Need-shared-slice-read-delta Inv-loop μ-loop
+shared-slice-read-delta c = search needs
+
+mul-delta-2 : tie.Need-mul-delta-2 Inv-loop μ-loop
+mul-delta-2 c = search needs
+
+shared-slice-read-delta-2 : tie.Need-shared-slice-read-delta-2 Inv-loop μ-loop
+shared-slice-read-delta-2 c = search needs
+
+add-j : tie.Need-add-j Inv-loop μ-loop
+add-j c = search needs
+
+loop-less : tie.Need-loop-less Inv-loop μ-loop
+loop-less c = search needs
+
+loop-again : tie.Need-loop-again Inv-loop μ-loop
+unfolding sumTo
+loop-again c = (search needs, rw (add-one, c .before .before .before .loop .inv .1))
+
+returns : tie.Need-returns Inv-loop μ-loop
+returns c =
+    let a = c .before .before .args in
+    let e : c .before .loop .j ≡ length (a .a .now) = omega arith in
+    c .before .loop .inv .1 ∙ ap (λ (n : ℕ). distance n (vectorOf (a .a .now)) (vectorOf (a .b .now))) e
+
+pub squared-distance-spec : {M : Type 1} → statement M
+squared-distance-spec =
+    tie.close
+    (tie.spec
+    Inv-loop
+    μ-loop
+    loop-holds
+    mul-delta
+    shared-slice-read-delta
+    mul-delta-2
+    shared-slice-read-delta-2
+    add-j
+    loop-less
+    loop-again
+    returns)

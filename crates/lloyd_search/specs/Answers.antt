@@ -1,0 +1,63 @@
+-- What nearest and mean error, called alone, come to: document 01's checks in their order. Definitions only.
+use Prim.Native.Nat.{ℕ, _*_, _/_, _%_}
+use mathlib.Core.Bool.{Bool, false, not, _&&_, cond}
+use mathlib.Core.List.{List, [], _∷_}
+use lib.Dec.{leb, eqb}
+use lib.IntN.{pos}
+use lib.ListN.{length}
+use lib.Ieee.{Float, fin}
+use Rattle.error.specs.Names.{codewordsSlice, inputSlice, samplesSlice}
+use Rattle.error.specs.Numbers.{Outcome, completed, refused, refusal, whole}
+use Rattle.slices.specs.declared.First.{First}
+use Rattle.slices.specs.declared.First.the-variants.{Nowhere, At}
+use Rattle.slices.specs.Limit.{firstOutside}
+use Rattle.lloyd_search.specs.declared.Found.{Found}
+use Rattle.lloyd_search.specs.declared.NearestCodeword.{NearestCodeword}
+use Rattle.lloyd_search.specs.declared.NearestCodeword.the-variants.{Nearest, Refused}
+use Rattle.lloyd_search.specs.declared.CodebookError.{CodebookError}
+use Rattle.lloyd_search.specs.declared.CodebookError.the-variants as error-variants
+use Rattle.lloyd_search.specs.Distance.{vectorOf, rowOf}
+use Rattle.lloyd_search.specs.Nearest.{nearest, meanError}
+
+-- a codebook of n codewords of k coordinates, within the limits of calls alone, has this many values
+abbrev pub codebookShaped : ℕ → ℕ → ℕ → Bool
+codebookShaped n k values = leb 1 k && (leb k 256 && (leb 1 n && (leb n 1048576 && eqb values (n * k))))
+
+-- up to ten million whole samples of k coordinates, for a k above 0
+abbrev pub samplesShaped : ℕ → ℕ → Bool
+samplesShaped k values = eqb (values % k) 0 && leb (values / k) 10000000
+
+-- 18 at the first value that is not finite or too large
+abbrev pub bounded : {A : Type 0} → ℕ → First → Outcome A → Outcome A
+bounded slice Nowhere rest = rest
+bounded slice (At place) rest = refused 18 (whole slice ∷ whole place ∷ [])
+
+-- 2 ^ 128
+abbrev pub searchLimit : Float
+searchLimit = fin false 1 (pos 128)
+
+unfoldable pub nearestAlone : ℕ → ℕ → List Float → List Float → Outcome Found
+nearestAlone n k codewords block =
+    cond (not (codebookShaped n k (length codewords))) (refused 7 (whole codewordsSlice ∷ []))
+    (cond (not (eqb (length block) k)) (refused 7 (whole inputSlice ∷ []))
+    (bounded inputSlice (firstOutside searchLimit block)
+    (bounded codewordsSlice (firstOutside searchLimit codewords)
+    (completed (nearest k n (rowOf k codewords) (vectorOf block))))))
+
+unfoldable pub meanErrorAlone : ℕ → ℕ → List Float → List Float → Outcome Float
+meanErrorAlone n k codewords samples =
+    cond (not (codebookShaped n k (length codewords))) (refused 7 (whole codewordsSlice ∷ []))
+    (cond (not (samplesShaped k (length samples))) (refused 7 (whole samplesSlice ∷ []))
+    (cond (eqb (length samples) 0) (refused 1 [])
+    (bounded samplesSlice (firstOutside searchLimit samples)
+    (bounded codewordsSlice (firstOutside searchLimit codewords)
+    (completed (meanError k n (rowOf k codewords) (rowOf k samples) (length samples / k)))))))
+
+-- the answers
+abbrev pub nearestOf : NearestCodeword → Outcome Found
+nearestOf (Nearest f) = completed f
+nearestOf (Refused r) = refusal r
+
+abbrev pub errorOf : CodebookError → Outcome Float
+errorOf (error-variants.Mean x) = completed x
+errorOf (error-variants.Refused r) = refusal r

@@ -1,0 +1,5 @@
+pub mod Distance
+pub mod Nearest
+pub mod Four
+pub mod Finite
+pub mod Answers

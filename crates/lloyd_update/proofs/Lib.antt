@@ -1,0 +1,4 @@
+pub mod CheckLaw
+pub mod AddLaw
+pub mod RepairsLaw
+pub mod BeginLaw
