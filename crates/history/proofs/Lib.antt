@@ -1,0 +1,3 @@
+pub mod ChecksLaw
+pub mod TalliesLaw
+pub mod HistoryLaw

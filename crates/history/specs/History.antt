@@ -1,0 +1,161 @@
+-- What demand 3 claims of updates called alone, one after another: `History`, at the end; proofs/HistoryLaw.antt proves it of every list and every codebook. It speaks of `updateAlone`, `codebookAfter` and `slotsAfter`, the definitions for update's own contract.
+-- Document 01's terms: its history is a list of requests with the codebook before the first; the book of an accepted update is `Tallies`, a cell's tally `tallyOf`, its gifts `donations`, filled `isFilled`, the repairs the events in the first slots. Definitions only.
+use mathlib.Core.Path.{_≡_}
+use Prim.Native.Nat.{ℕ, _+_, _-_, _/_, _<_, _≤_}
+use mathlib.Core.Bool.{Bool, true, false, _||_, cond}
+use mathlib.Core.List.{List, [], _∷_, _++_}
+use lib.Dec.{eqb}
+use lib.ListN.{length, getD, take}
+use lib.Ieee.{Float}
+use Rattle.error.specs.Numbers.{Value, Outcome, completed, refused}
+use Rattle.profile.specs.declared.EmptyCellPolicy.{EmptyCellPolicy}
+use Rattle.lloyd_events.specs.declared.LloydRepairEvent.{LloydRepairEvent}
+use Rattle.lloyd_cells.specs.Cells.{countTo, total}
+use Rattle.lloyd_cells.specs.Repair.{Repaired}
+use Rattle.lloyd_update.specs.Alone.{Call, updateOf, updateAlone, wordsOf, codebookAfter, slotsAfter}
+
+-- ---- a history
+-- all that a call is given but the codebook; what stands in work and event slots is free
+pub record Request : Type 0 where
+  pub size : ℕ
+  pub dim : ℕ
+  pub samples : List Float
+  pub assignments : List ℕ
+  pub policy : EmptyCellPolicy
+  pub restart : ℕ
+  pub iteration : ℕ
+  pub floatWork : ℕ
+  pub integerWork : ℕ
+  pub slots : ℕ
+
+abbrev pub callWith : Request → List Float → Call
+callWith q codebook = record {
+  size = q .size;
+  dim = q .dim;
+  codebook = codebook;
+  samples = q .samples;
+  assignments = q .assignments;
+  policy = q .policy;
+  restart = q .restart;
+  iteration = q .iteration;
+  floatWork = q .floatWork;
+  integerWork = q .integerWork;
+  slots = q .slots;
+}
+
+-- the codebook after the list: each call gets the one that the last call left
+unfoldable pub after : List Request → List Float → List Float
+after [] codebook = codebook
+after (q ∷ rest) codebook = after rest (codebookAfter (callWith q codebook))
+
+-- what each call comes to, with its repairs
+unfoldable pub answers : List Request → List Float → List (Outcome Repaired)
+answers [] codebook = []
+answers (q ∷ rest) codebook = updateAlone (callWith q codebook) ∷ answers rest (codebookAfter (callWith q codebook))
+
+abbrev pub isCompleted : {A : Type 0} → Outcome A → Bool
+isCompleted (completed x) = true
+isCompleted (refused n vs) = false
+
+-- the answers that are no refusal
+unfoldable pub completions : {A : Type 0} → List (Outcome A) → List (Outcome A)
+completions [] = []
+completions (o ∷ rest) = cond (isCompleted o) (o ∷ completions rest) (completions rest)
+
+-- the list without the requests that were refused
+unfoldable pub accepted : List Request → List Float → List Request
+accepted [] codebook = []
+accepted (q ∷ rest) codebook =
+    let others = accepted rest (codebookAfter (callWith q codebook)) in
+    cond (isCompleted (updateAlone (callWith q codebook))) (q ∷ others) others
+
+-- the rule of an update, request after request and never refused, makes `last` of the codebook
+unfoldable pub Made : List Request → List Float → List Float → Type 0
+Made [] codebook last = last ≡ codebook
+Made (q ∷ rest) codebook last = (r : Repaired) × (updateOf (callWith q codebook) ≡ completed r) × Made rest (wordsOf (q .size) (q .dim) (r .cells .word)) last
+
+-- ---- the tallies of an accepted update, from its arguments and answers alone
+abbrev pub sampleCount : Call → ℕ
+sampleCount c = length (c .samples) / c .dim
+
+-- how many samples are assigned to a cell
+abbrev pub assignedTally : List ℕ → ℕ → ℕ
+assignedTally assignments cell = countTo (λ s. getD assignments s 0) cell (length assignments)
+
+-- what a repair takes from a cell: 1 from its donor
+abbrev pub donated : LloydRepairEvent → ℕ → ℕ
+donated event cell = cond (eqb cell (event .«donor_cell»)) 1 0
+
+-- the tallies after it: its empty cell has 1 more
+abbrev pub splitTally : (ℕ → ℕ) → LloydRepairEvent → ℕ → ℕ
+splitTally tally event cell = (tally cell - donated event cell) + cond (eqb cell (event .«empty_cell»)) 1 0
+
+-- after all of them, in order
+unfoldable pub tallyAfter : (ℕ → ℕ) → List LloydRepairEvent → ℕ → ℕ
+tallyAfter tally [] = tally
+tallyAfter tally (event ∷ events) = tallyAfter (splitTally tally event) events
+
+-- a repair at its moment: its empty cell stands at 0, its donor above 1, at the tally that the event shows
+pub record Fair (tally : ℕ → ℕ) (event : LloydRepairEvent) : Type 0 where
+  pub empty : tally (event .«empty_cell») ≡ 0
+  pub plenty : 1 < tally (event .«donor_cell»)
+  pub shown : event .«donor_count_before» ≡ tally (event .«donor_cell»)
+
+-- each of them, in order
+unfoldable pub Sound : (ℕ → ℕ) → List LloydRepairEvent → Type 0
+Sound tally [] = Unit
+Sound tally (event ∷ events) = Fair tally event × Sound (splitTally tally event) events
+
+-- how many samples a cell gives away
+unfoldable pub donations : List LloydRepairEvent → ℕ → ℕ
+donations [] cell = 0
+donations (event ∷ events) cell = donated event cell + donations events cell
+
+-- whether a cell is filled
+unfoldable pub isFilled : List LloydRepairEvent → ℕ → Bool
+isFilled [] cell = false
+isFilled (event ∷ events) cell = eqb cell (event .«empty_cell») || isFilled events cell
+
+-- the tallies of n cells that share S samples: from 1 to S - n + 1, and no sample is lost
+pub record Balanced (S n : ℕ) (tally : ℕ → ℕ) : Type 0 where
+  pub least : (cell : ℕ) → cell < n → 1 ≤ tally cell
+  pub most : (cell : ℕ) → cell < n → tally cell + n ≤ S + 1
+  pub all : total tally n ≡ S
+
+-- `slots` is as the call left it, and `repairs` the number that it answered
+abbrev pub tallyOf : Call → List LloydRepairEvent → ℕ → ℕ → ℕ
+tallyOf c slots repairs = tallyAfter (assignedTally (c .assignments)) (take repairs slots)
+
+pub record Tallies (c : Call) (slots : List LloydRepairEvent) (repairs : ℕ) : Type 0 where
+  pub reported : repairs ≤ length slots
+  pub sound : Sound (assignedTally (c .assignments)) (take repairs slots)
+  -- the samples assigned, less those given away, plus one if filled
+  pub counted : (cell : ℕ)
+      → tallyOf c slots repairs cell + donations (take repairs slots) cell ≡ assignedTally (c .assignments) cell + cond (isFilled (take repairs slots) cell) 1 0
+  pub balanced : Balanced (sampleCount c) (c .size) (tallyOf c slots repairs)
+
+-- ---- what is claimed
+-- of an accepted call: the rule came to r, the codebook now holds its codewords, the first slots its repairs, and the tallies are in order; whatever the slots held before
+pub record AcceptedCall (c : Call) (r : Repaired) : Type 0 where
+  pub rule : updateOf c ≡ completed r
+  pub words : codebookAfter c ≡ wordsOf (c .size) (c .dim) (r .cells .word)
+  pub repairs : (slots : List LloydRepairEvent) → take (length (r .events)) (slotsAfter c slots) ≡ r .events
+  pub tallies : (slots : List LloydRepairEvent) → Tallies c (slotsAfter c slots) (length (r .events))
+
+-- of any call
+pub record AnyCall (c : Call) : Type 0 where
+  pub accepts : (r : Repaired) → updateAlone c ≡ completed r → AcceptedCall c r
+  -- a refusal leaves the codebook
+  pub refuses : (n : ℕ) (vs : List Value) → updateAlone c ≡ refused n vs → codebookAfter c ≡ c .codebook
+  -- with as many samples as codewords, or more, "no donor" never comes
+  pub donor : c .size ≤ sampleCount c → (vs : List Value) → updateAlone c ≡ refused 15 vs → ⊥
+
+-- of the whole history
+pub record History (requests : List Request) (codebook : List Float) : Type 0 where
+  -- the codebook is what the accepted updates made of it in turn
+  pub made : Made (accepted requests codebook) codebook (after requests codebook)
+  -- without the refused, the others give the same answers and repairs and the same last codebook
+  pub same-answers : answers (accepted requests codebook) codebook ≡ completions (answers requests codebook)
+  pub same-codebook : after (accepted requests codebook) codebook ≡ after requests codebook
+  -- each call, wherever it stands, given the codebook that those before it left
+  pub each : (before rest : List Request) (q : Request) → requests ≡ before ++ (q ∷ rest) → AnyCall (callWith q (after before codebook))
