@@ -1,0 +1,124 @@
+-- What decoding a frame comes to: document 01's checks in their order, and the values that indices and norm stand for. Definitions only.
+-- d is the ambient dimension, k the block dimension, n the codebook size.
+use Prim.Native.Nat.{ℕ, _*_, _/_, _%_}
+use mathlib.Core.Bool.{false, not, _&&_, cond}
+use mathlib.Core.List.{List, [], _∷_}
+use lib.Dec.{ltb, eqb}
+use lib.IntN.{pos}
+use lib.ListN.{length, getD}
+use lib.Ieee.{Float, nan, fin, binary32, binary64, mul}
+use Rattle.error.specs.Names.{codewordsSlice, floatWorkSlice, matrixSlice, outputSlice, paddingBitSite}
+use Rattle.error.specs.Numbers.{Outcome, completed, refused, whole, andThen, also}
+use Rattle.slices.specs.declared.First.{First}
+use Rattle.slices.specs.declared.First.the-variants.{Nowhere, At}
+use Rattle.slices.specs.First.{firstWhere}
+use Rattle.slices.specs.Lists.{tabulate}
+use Rattle.slices.specs.Limit.{firstOutside}
+use Rattle.narrow.specs.Pack.{narrowTo}
+use Rattle.bitpack.specs.Layout.{unpackedIndices, paddingFrom}
+use Rattle.compact.specs.Frame.{Parts, parsed}
+use Rattle.profile.specs.declared.FibQuantProfile.{FibQuantProfile}
+use Rattle.profile.specs.Valid.{validity}
+use Rattle.rotation.specs.Apply.{appliedInverse, ofLength}
+use Rattle.lloyd_search.specs.Distance.{rowOf}
+use Rattle.lloyd_search.specs.Answers.{bounded}
+use Rattle.codebook.specs.Codebook.{firstNotFinite}
+use Rattle.norm.specs.Norm.{normValue}
+
+-- ---- what indices and norm stand for
+
+-- the codewords of the indices, one after another: value m is coordinate m % k of the codeword of index m / k
+unfoldable pub rotatedAt : ℕ → List Float → List ℕ → ℕ → Float
+rotatedAt k codewords indices m = rowOf k codewords (getD indices (m / k) 0) (m % k)
+
+abbrev pub rotated : ℕ → ℕ → List Float → List ℕ → List Float
+rotated d k codewords indices = tabulate d (rotatedAt k codewords indices)
+
+-- value i of them, rotated back, times the norm, rounded to binary32
+unfoldable pub decodedAt : ℕ → ℕ → List Float → List Float → List ℕ → Float → ℕ → Float
+decodedAt d k matrix codewords indices norm i = narrowTo binary32 (mul binary64 (getD (appliedInverse d matrix (rotated d k codewords indices)) i nan) norm)
+
+abbrev pub decoded : ℕ → ℕ → List Float → List Float → List ℕ → Float → List Float
+decoded d k matrix codewords indices norm = tabulate d (decodedAt d k matrix codewords indices norm)
+
+-- ---- the checks
+
+-- 7: the lengths of matrix, codewords, output and float work
+abbrev pub lengths : ℕ → ℕ → ℕ → ℕ → ℕ → ℕ → ℕ → Outcome Unit
+lengths d k n matrix codewords output work =
+    ofLength matrixSlice (d * d) matrix (ofLength codewordsSlice (n * k) codewords (ofLength outputSlice d output (ofLength floatWorkSlice (2 * d) work (completed tt))))
+
+-- 2 ^ 20
+abbrev pub matrixLimit : Float
+matrixLimit = fin false 1 (pos 20)
+
+-- 18: the codewords finite, then the matrix at most 2 ^ 20 in size
+unfoldable pub values : List Float → List Float → Outcome Unit
+values matrix codewords = bounded codewordsSlice (firstNotFinite codewords) (bounded matrixSlice (firstOutside matrixLimit matrix) (completed tt))
+
+-- 17: the frame has the profile's width of an index and number of blocks
+abbrev pub headed : ℕ → ℕ → Parts → Outcome Unit
+headed bits blocks parts = cond (not (eqb (parts .width) bits && eqb (parts .count) blocks)) (refused 17 []) (completed tt)
+
+-- 9: no padding bit is set. (A frame that parses has index bytes of the right length, and a valid profile's width is 1 to 20, so sites 1 and 2 can't come.)
+abbrev pub unpadded : Parts → Outcome Unit
+unpadded parts = cond (not (eqb (paddingFrom (parts .indices) (parts .count * parts .width)) 0)) (refused 9 (whole paddingBitSite ∷ [])) (completed tt)
+
+-- 11: the first index that is not below n
+abbrev pub offending : ℕ → List ℕ → First → Outcome Unit
+offending n indices Nowhere = completed tt
+offending n indices (At i) = refused 11 (whole (getD indices i 0) ∷ whole n ∷ [])
+
+abbrev pub below : ℕ → List ℕ → Outcome Unit
+below n indices = offending n indices (firstWhere (λ i. not (ltb (getD indices i 0) n)) (length indices))
+
+-- the indices of a frame
+abbrev pub indicesOf : Parts → List ℕ
+indicesOf parts = unpackedIndices (parts .indices) (parts .count) (parts .width)
+
+-- 17, 9 and 11
+unfoldable pub indexed : ℕ → ℕ → ℕ → Parts → Outcome Unit
+indexed bits blocks n parts = also (headed bits blocks parts) (also (unpadded parts) (below n (indicesOf parts)))
+
+-- 12: the first value that is not finite
+abbrev pub unless : List Float → First → Outcome (List Float)
+unless xs Nowhere = completed xs
+unless xs (At place) = refused 12 (whole place ∷ [])
+
+abbrev pub onlyFinite : List Float → Outcome (List Float)
+onlyFinite xs = unless xs (firstNotFinite xs)
+
+-- ---- decoding
+
+-- the parts of a frame, through every check but the last: the value of the norm
+unfoldable pub readable : FibQuantProfile → List ℕ → List ℕ → Float → List Float → List Float → ℕ → ℕ → Parts → Outcome Float
+readable p schema algorithm log2 matrix codewords output work parts =
+    also (validity p schema algorithm log2)
+    (also (lengths (p .«ambient_dim») (p .«block_dim») (p .«codebook_size») (length matrix) (length codewords) output work)
+    (also (values matrix codewords)
+    (also (indexed (p .«wire_index_bits») (p .«ambient_dim» / p .«block_dim») (p .«codebook_size») parts)
+    (normValue (parts .norm)))))
+
+-- the same of bytes: the frame is checked first
+abbrev pub decodable : FibQuantProfile → List ℕ → List ℕ → Float → List Float → List Float → ℕ → ℕ → List ℕ → Outcome Float
+decodable p schema algorithm log2 matrix codewords output work bytes =
+    andThen (parsed bytes) (readable p schema algorithm log2 matrix codewords output work)
+
+-- the values of a frame whose norm is known
+abbrev pub valued : FibQuantProfile → List Float → List Float → Parts → Float → Outcome (List Float)
+valued p matrix codewords parts norm = onlyFinite (decoded (p .«ambient_dim») (p .«block_dim») matrix codewords (indicesOf parts) norm)
+
+-- the whole: every check, and the values
+abbrev pub decoding : FibQuantProfile → List ℕ → List ℕ → Float → List Float → List Float → ℕ → ℕ → List ℕ → Outcome (List Float)
+decoding p schema algorithm log2 matrix codewords output work bytes =
+    andThen (parsed bytes) (λ parts. andThen (readable p schema algorithm log2 matrix codewords output work parts) (valued p matrix codewords parts))
+
+-- ---- the answer, and what the output holds afterwards
+
+abbrev pub accepted : {A : Type 0} → Outcome A → Outcome Unit
+accepted (completed x) = completed tt
+accepted (refused n v) = refused n v
+
+abbrev pub contents : {A : Type 0} → Outcome (List A) → List A → List A
+contents (completed xs) old = xs
+contents (refused n v) old = old

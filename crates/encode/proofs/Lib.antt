@@ -1,0 +1,3 @@
+pub mod EncodeLaw
+pub mod CheckLaw
+pub mod AcceptLaw

@@ -1,0 +1,105 @@
+-- `encode::write_code` meets its contract: normalized, rotated, rounded, searched; then the work is zeroed. Assumes nothing.
+use mathlib.Core.Path.{_≡_, refl, sym, ap, _∙_}
+use mathlib.Core.List.{List}
+use Prim.Native.Nat.{ℕ, _+_, _*_, _-_, _≤_}
+use native.Mathlib.Omega.{arith}
+use lib.ListN.{length, take, drop, replicate, length-drop}
+use lib.Seq.{take-all}
+use lib.Ieee.{Float}
+use Rattle.ieee.specs.Sum.{plusZero}
+use Rattle.slices.proofs.TabulateLaw.{length-tabulate}
+use Rattle.bitpack.specs.Layout.{packedBytes}
+use Rattle.compact.specs.Frame.{bytesOf, frameOf}
+use Rattle.encode.specs.Encode.{searchedAt, searched, indicesFor}
+use Rattle.encode.proofs.EncodeLaw.{seen}
+use borrow.Author.Needs.{needs}
+use Rattle.encode.proofs.write_code.Statement.{statement}
+use Rattle.encode.proofs.write_code.Tie as tie
+
+normalize-requires : tie.Need-normalize-requires
+normalize-requires c κs = search needs
+
+rotate-within-requires : tie.Need-rotate-within-requires
+rotate-within-requires c κs = search needs
+
+round-half-requires : tie.Need-round-half-requires
+round-half-requires c κs = search needs
+
+mul-write-frame : tie.Need-mul-write-frame
+mul-write-frame c = search needs
+
+sub-write-frame : tie.Need-sub-write-frame
+sub-write-frame c = search needs
+
+part-write-frame-start : tie.Need-part-write-frame-start
+part-write-frame-start c = search needs
+
+part-write-frame-end : tie.Need-part-write-frame-end
+part-write-frame-end c = search needs
+
+-- the values that the search sees
+values : (c : tie.After-write-frame-arg2) → let a = c .before .before .before .before .before .before .before .before .before .before .before .before .before .before .before .before .before .before .before .before .args in let w = c .before .before .before .before .before .round-half .last .0 in
+    take (length w - length (a .input .now)) (drop (length (a .input .now)) w) ≡ searched (length (a .input .now)) (a .matrix .now) (a .input .now) (a .norm)
+values c =
+    let s = c .before .before .before .before .before .before .before .before .before .before .before .before .before .before .before .before .before .before .before .before in
+    let a = s .args in
+    let r₁ = c .before .before .before .before .before .before .before .before .before .before .before .before .before .normalize in
+    let r₂ = c .before .before .before .before .before .before .before .before .before .rotate-within in
+    let r₃ = c .before .before .before .before .before .round-half in
+    let d = length (a .input .now) in
+    take-all (length (r₃ .last .0) - d) (drop d (r₃ .last .0)) (rw (length-drop d (r₃ .last .0)) (omega arith))
+    ∙ seen d (a .matrix .now) (a .input .now) (a .norm) (a .work .now) (r₁ .last .1 .1 .0) (r₂ .last .1 .0) (r₃ .last .0) d refl (s .pre .halves) (r₁ .ensures) (r₂ .ensures) (r₃ .ensures)
+
+same : (c : tie.After-write-frame-arg2) → length (c .before .before .before .before .before .round-half .last .0) ≡ length (c .before .before .before .before .before .before .before .before .before .before .before .before .before .before .before .before .before .before .before .before .args .work .now)
+same c = c .before .before .before .before .before .round-half .kept .0 ∙ c .before .before .before .before .before .before .before .before .before .rotate-within .kept .1 .0 ∙ c .before .before .before .before .before .before .before .before .before .before .before .before .before .normalize .kept .1 .1 .0
+
+write-frame-requires : tie.Need-write-frame-requires
+write-frame-requires c κs =
+    let s = c .before .before .before .before .before .before .before .before .before .before .before .before .before .before .before .before .before .before .before .before in
+    let a = s .args in
+    let q = s .pre in (
+      record {
+        blocks = ap length (values c) ∙ length-tabulate (length (a .input .now)) (searchedAt (length (a .input .now)) (a .matrix .now) (a .input .now) (a .norm)) ∙ q .blocks;
+        book = q .book;
+        some = q .some;
+        fits = q .fits;
+        most = q .most;
+        narrow = q .narrow;
+        room = rw (length-drop 13 (a .output .now)) (omega (arith, q .room));
+      },
+      omega (arith, q .room),
+    )
+
+zero-f64-requires : tie.Need-zero-f64-requires
+zero-f64-requires c κs = search needs
+
+same-length : tie.Need-same-length
+same-length c = search needs
+
+same-length-2 : tie.Need-same-length-2
+same-length-2 c = search needs
+
+returns : tie.Need-returns
+returns c =
+    let f = c .before .before .before .before .before .before .before in
+    let a = f .before .before .before .before .before .before .before .before .before .before .before .before .before .before .before .before .before .before .before .before .args in (
+      c .before .before .before .before .before .before .write-frame .ensures ∙ ap (λ (xs : List Float). frameOf (a .width) (a .count) (bytesOf 2 (a .bits)) (packedBytes (indicesFor (a .count) (a .k) (a .n) (a .codewords .now) xs) (a .width))) (values f),
+      c .before .before .zero-f64 .ensures ∙ ap (λ (z : ℕ). replicate z plusZero) (same f),
+    )
+
+pub write-code-spec : {M : Type 1} → statement M
+write-code-spec =
+    tie.close
+    (tie.spec
+    normalize-requires
+    rotate-within-requires
+    round-half-requires
+    mul-write-frame
+    sub-write-frame
+    part-write-frame-start
+    part-write-frame-end
+    write-frame-requires
+    zero-f64-requires
+    same-length
+    same-length-2
+    returns)

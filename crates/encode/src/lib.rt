@@ -1,0 +1,243 @@
+// The steps of encoding a vector into a compact frame: its norm, every check, and the frame. From codec.rs of fib-quant, without digests.
+// specs/Encode.antt has the order of the checks, their numbers and values, and the frame that is written.
+// The three public functions are public only for the entry point, which docs/DECISIONS.md says is still to come.
+use bitpack::BitWriter;
+use error::Checked;
+use error::Refusal;
+use norm::NormBits;
+use profile::FibQuantProfile;
+use slices::First;
+ghost use mathlib.Core.Path.{_≡_};
+ghost use mathlib.Core.List.{_++_};
+ghost use Prim.Native.Nat.{_+_, _*_, _/_, _≤_, _<_};
+ghost use lib.ListN.{length, getD, drop, replicate};
+ghost use lib.Ieee.{nan, binary32};
+ghost use Rattle.error.specs.Numbers.{checked};
+ghost use Rattle.ieee.specs.Sum.{plusZero};
+ghost use Rattle.slices.specs.Lists.{patched};
+ghost use Rattle.narrow.specs.Pack.{narrowTo};
+ghost use Rattle.bitpack.specs.Layout.{packedBytes};
+ghost use Rattle.compact.specs.Frame.{bytesOf, header, frameOf};
+ghost use Rattle.norm.specs.Norm.{bitsOf};
+ghost use Rattle.encode.specs.Encode.{normOf, normalizedAt, searched, indicesFor, lengths, normed, codable};
+ghost use Rattle.encode.specs.Work.{Searchable, Writable};
+
+// The lengths of matrix, codewords, input, output and float work.
+fn check_lengths(
+    d: usize,
+    k: usize,
+    n: usize,
+    bits: usize,
+    matrix: usize,
+    codewords: usize,
+    input: usize,
+    output: usize,
+    work: usize,
+) -> Checked
+    requires { ⌜ (d ≤ 4096) × (n * k ≤ 67108864) × (1 ≤ k) × (bits ≤ 20) ⌝ }
+    ensures { λ r. ⌜ checked r ≡ lengths d k n bits matrix codewords input output work ⌝ }
+{
+    if matrix != d * d {
+        return Checked::Refused(Refusal::SliceLength(3));
+    }
+    if codewords != n * k {
+        return Checked::Refused(Refusal::SliceLength(4));
+    }
+    if input != d {
+        return Checked::Refused(Refusal::SliceLength(5));
+    }
+    if output != 13 + (d / k * bits + 7) / 8 {
+        return Checked::Refused(Refusal::SliceLength(6));
+    }
+    if work != 2 * d {
+        return Checked::Refused(Refusal::SliceLength(7));
+    }
+    Checked::Accepted
+}
+
+// The root of the sum of the squares.
+pub fn l2_norm(input: &[f32]) -> f64
+    ensures { λ r. ⌜ r ≡ normOf (now (input .entry)) ⌝ }
+{
+    let mut sum = 0.0;
+    let mut i = 0usize;
+    while i < input.len() {
+        let x = narrow::f32_to_f64(input[i]);
+        sum = sum + x * x;
+        i += 1usize;
+    }
+    root::sqrt(sum)
+}
+
+// The checks of the input and of its norm, and the norm's pattern.
+fn check_norm(input: &[f32], norm: f64) -> NormBits
+    ensures { λ r. ⌜ bitsOf r ≡ normed (now (input .entry)) norm ⌝ }
+{
+    let bad = codebook::first_not_finite(input);
+    if let First::At(place) = bad {
+        return NormBits::Refused(Refusal::NonFiniteInput(place as u64));
+    }
+    if norm == 0.0 {
+        return NormBits::Refused(Refusal::ZeroNorm);
+    }
+    norm::encode_norm(norm)
+}
+
+// Every check, and the norm's pattern. Nothing is written before all of them are passed.
+pub fn check_input(
+    profile: FibQuantProfile,
+    schema: &[u8],
+    rotation_algorithm: &[u8],
+    log2: f64,
+    matrix: &[f64],
+    codewords: &[f32],
+    input: &[f32],
+    norm: f64,
+    output: usize,
+    work: usize,
+) -> NormBits
+    requires { ⌜ norm ≡ normOf (now input) ⌝ }
+    ensures { λ r. ⌜ bitsOf r ≡ codable profile (now (schema .entry)) (now («rotation_algorithm» .entry)) log2 (now (matrix .entry)) (now (codewords .entry)) (now (input .entry)) output work ⌝ }
+{
+    let valid = profile.validate(schema, rotation_algorithm, log2);
+    if let Checked::Refused(refusal) = valid {
+        return NormBits::Refused(refusal);
+    }
+    let d = profile.ambient_dim;
+    let k = profile.block_dim;
+    let n = profile.codebook_size;
+    let bits = profile.wire_index_bits;
+    let sized = check_lengths(
+        d as usize,
+        k as usize,
+        n as usize,
+        bits as usize,
+        matrix.len(),
+        codewords.len(),
+        input.len(),
+        output,
+        work,
+    );
+    if let Checked::Refused(refusal) = sized {
+        return NormBits::Refused(refusal);
+    }
+    let bounded = decode::check_values(matrix, codewords);
+    if let Checked::Refused(refusal) = bounded {
+        return NormBits::Refused(refusal);
+    }
+    check_norm(input, norm)
+}
+
+// The input over its norm, widened, from the start of the work.
+fn normalize(input: &[f32], norm: f64, work: &mut [f64])
+    requires { ⌜ length (now work) ≡ length (now input) + length (now input) ⌝ }
+    ensures { λ r. ⌜ now (work .exit) ≡ patched (now (work .entry)) 0 (length (now (input .entry))) (normalizedAt (now (input .entry)) norm) ⌝ }
+{
+    let mut i = 0usize;
+    while i < input.len() {
+        work[i] = narrow::f32_to_f64(input[i]) / norm;
+        i += 1usize;
+    }
+}
+
+// Each value of the second half of the work, rounded to binary32.
+fn round_half(work: &mut [f64], d: usize)
+    requires { ⌜ length (now work) ≡ d + d ⌝ }
+    ensures { λ r. ⌜ now (work .exit) ≡ patched (now (work .entry)) d d (λ i. narrowTo binary32 (getD (now (work .entry)) (d + i) nan)) ⌝ }
+{
+    let mut i = 0usize;
+    while i < d {
+        let x = narrow::f64_to_f32(work[d + i]);
+        work[d + i] = narrow::f32_to_f64(x);
+        i += 1usize;
+    }
+}
+
+// The packed indices of the codewords that are nearest to the blocks.
+fn write_indices(
+    codewords: &[f32],
+    n: usize,
+    k: usize,
+    count: usize,
+    width: u8,
+    values: &[f64],
+    output: &mut [u8],
+)
+    requires { ⌜ Searchable count k n width (length (now values)) (length (now codewords)) (length (now output)) ⌝ }
+    ensures { λ r. ⌜ now (output .exit) ≡ packedBytes (indicesFor count k n (now (codewords .entry)) (now (values .entry))) width ⌝ }
+{
+    let mut writer = BitWriter::new();
+    let mut i = 0usize;
+    let mut at = 0usize;
+    while i < count {
+        let end = at + k;
+        let found = lloyd_search::search_f32(codewords, n, &values[at..end]);
+        let index = found.index;
+        writer = writer.push(index as u32, width, output);
+        at = end;
+        i += 1usize;
+    }
+    writer.finish(output);
+}
+
+// The first 13 bytes of a frame: the header, and the norm's pattern.
+fn write_front(width: u8, count: u32, bits: u16, output: &mut [u8])
+    requires { ⌜ 13 ≤ length (now output) ⌝ }
+    ensures { λ r. ⌜ now (output .exit) ≡ header width count 2 ++ bytesOf 2 bits ++ drop 13 (now (output .entry)) ⌝ }
+{
+    compact::write_header(width, count, 2, output);
+    let norm = [(bits % 256) as u8, (bits / 256) as u8];
+    compact::write_part(&norm, output, 11);
+}
+
+// The whole frame, from the values that the search sees.
+fn write_frame(
+    codewords: &[f32],
+    n: usize,
+    k: usize,
+    count: u32,
+    width: u8,
+    bits: u16,
+    values: &[f64],
+    output: &mut [u8],
+)
+    requires { ⌜ (Searchable count k n width (length (now values)) (length (now codewords)) (length (drop 13 (now output)))) × (13 ≤ length (now output)) ⌝ }
+    ensures { λ r. ⌜ now (output .exit) ≡ frameOf width count (bytesOf 2 bits) (packedBytes (indicesFor count k n (now (codewords .entry)) (now (values .entry))) width) ⌝ }
+{
+    write_front(width, count, bits, output);
+    write_indices(
+        codewords,
+        n,
+        k,
+        count as usize,
+        width,
+        values,
+        &mut output[13..],
+    );
+}
+
+// The frame of an input whose norm and its pattern are known. The work is zeroed.
+pub fn write_code(
+    matrix: &[f64],
+    codewords: &[f32],
+    n: usize,
+    k: usize,
+    count: u32,
+    width: u8,
+    input: &[f32],
+    norm: f64,
+    bits: u16,
+    output: &mut [u8],
+    work: &mut [f64],
+)
+    requires { ⌜ Writable (length (now input)) k n count width (length (now matrix)) (length (now codewords)) (length (now output)) (length (now work)) ⌝ }
+    ensures { λ r. ⌜ now (output .exit) ≡ frameOf width count (bytesOf 2 bits) (packedBytes (indicesFor count k n (now (codewords .entry)) (searched (length (now (input .entry))) (now (matrix .entry)) (now (input .entry)) norm)) width) ⌝ }
+    ensures { λ r. ⌜ now (work .exit) ≡ replicate (length (now (work .entry))) plusZero ⌝ }
+{
+    let d = input.len();
+    normalize(input, norm, work);
+    rotation::rotate_within(matrix, work, d);
+    round_half(work, d);
+    write_frame(codewords, n, k, count, width, bits, &work[d..], output);
+    slices::zero_f64(work);
+}
