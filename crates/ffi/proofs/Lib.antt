@@ -1,0 +1,2 @@
+pub mod CrossingLaws
+pub mod CodeLaws

@@ -1,0 +1,4 @@
+pub mod Crossing
+pub mod Codes
+pub mod Profiles
+pub mod Frames

@@ -1,0 +1,109 @@
+//! Stand-ins for the crates that the published files use. A module in scope serves where they say `use serde::..`.
+
+pub mod serde {
+    pub use derives::{Deserialize, Serialize};
+}
+
+pub mod thiserror {
+    pub use derives::Error;
+}
+
+pub mod half {
+    pub use crate::half::f16;
+}
+
+/// Nothing random is drawn: samples and matrices are lent (`standins::lend`).
+pub mod rand {
+    pub trait SeedableRng {
+        fn seed_from_u64(seed: u64) -> Self;
+    }
+}
+
+pub mod rand_chacha {
+    pub struct ChaCha8Rng;
+
+    impl super::rand::SeedableRng for ChaCha8Rng {
+        fn seed_from_u64(_: u64) -> Self {
+            ChaCha8Rng
+        }
+    }
+}
+
+pub mod rand_distr {
+    pub trait Distribution<T> {
+        fn sample<R: ?Sized>(&self, rng: &mut R) -> T;
+    }
+
+    pub struct StandardNormal;
+
+    impl Distribution<f64> for StandardNormal {
+        fn sample<R: ?Sized>(&self, _: &mut R) -> f64 {
+            0.0
+        }
+    }
+}
+
+/// A matrix whose `qr` gives the next lent matrix as q and a unit r, so that no sign is changed.
+pub mod nalgebra {
+    use std::ops::{Index, IndexMut};
+
+    pub struct DMatrix {
+        dim: usize,
+        rows: Vec<f64>,
+    }
+
+    pub struct Qr {
+        dim: usize,
+    }
+
+    impl DMatrix {
+        pub fn from_vec(dim: usize, _: usize, rows: Vec<f64>) -> Self {
+            DMatrix { dim, rows }
+        }
+
+        pub fn qr(self) -> Qr {
+            Qr { dim: self.dim }
+        }
+    }
+
+    impl Qr {
+        pub fn q(&self) -> DMatrix {
+            DMatrix { dim: self.dim, rows: crate::standins::lend::next_matrix() }
+        }
+
+        pub fn r(&self) -> Unit {
+            Unit
+        }
+    }
+
+    impl Index<(usize, usize)> for DMatrix {
+        type Output = f64;
+        fn index(&self, (row, col): (usize, usize)) -> &f64 {
+            &self.rows[row * self.dim + col]
+        }
+    }
+
+    impl IndexMut<(usize, usize)> for DMatrix {
+        fn index_mut(&mut self, (row, col): (usize, usize)) -> &mut f64 {
+            &mut self.rows[row * self.dim + col]
+        }
+    }
+
+    /// Only its diagonal is read.
+    pub struct Unit;
+
+    impl Index<(usize, usize)> for Unit {
+        type Output = f64;
+        fn index(&self, _: (usize, usize)) -> &f64 {
+            &1.0
+        }
+    }
+}
+
+/// The search of another crate, replaced by training's own search on widened values, as document 01 has it.
+pub mod gpu_backend {
+    pub fn nearest_codeword_f32(block: &[f32], codewords: &[f32], k: usize) -> usize {
+        let wide = |values: &[f32]| values.iter().map(|v| f64::from(*v)).collect::<Vec<_>>();
+        crate::lloyd::nearest_index(&wide(block), &wide(codewords), k).0
+    }
+}
