@@ -1,4 +1,4 @@
--- The numbers that come back with 6, 7, 8, 9 and 18, by name: profile fields, lent slices, and the sites of frame and packing. Definitions only.
+-- The numbers that come back with 6, 7, 8, 9, 18 and 20, by name: profile fields, lent slices, and the sites of frame, packing and report. Definitions only.
 use Prim.Native.Nat.{ℕ}
 
 -- ---- slices. The codebook of update called alone is the initial one.
@@ -97,3 +97,13 @@ packedLengthSite = 2
 
 abbrev pub paddingBitSite : ℕ
 paddingBitSite = 3
+
+-- ---- sites of a report
+abbrev pub settingsSite : ℕ
+settingsSite = 1
+
+abbrev pub mseSite : ℕ
+mseSite = 2
+
+abbrev pub repairCountSite : ℕ
+repairCountSite = 3

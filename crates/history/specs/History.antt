@@ -1,4 +1,4 @@
--- What demand 3 claims of updates called alone, one after another: `History`, at the end; proofs/HistoryLaw.antt proves it of every list and every codebook. It speaks of `updateAlone`, `codebookAfter` and `slotsAfter`, the definitions for update's own contract.
+-- What demand 3 claims of updates called alone, one after another: `History`, at the end; proofs/HistoryLaw.antt proves it of every list and every codebook. It speaks of `updateAlone`, `codebookAfter` and `slotsAfter`, the definitions that the contract of `update::update_centroids` cites.
 -- Document 01's terms: its history is a list of requests with the codebook before the first; the book of an accepted update is `Tallies`, a cell's tally `tallyOf`, its gifts `donations`, filled `isFilled`, the repairs the events in the first slots. Definitions only.
 use mathlib.Core.Path.{_≡_}
 use Prim.Native.Nat.{ℕ, _+_, _-_, _/_, _<_, _≤_}

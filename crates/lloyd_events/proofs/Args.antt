@@ -4,7 +4,7 @@
 --     bufs ks          what the caller holds of them: the entries of its context.        after ks ws     the list, where the slices have the elements ws
 --     lfts, shares, args, machs        what the callee's triple binds outside, at the names νs that are made for the call.        own-lfts, own-shares, own-args      what the function's own triple does
 --     enters, leaves   a function's own parameters: what it is handed gives `bufs`, and `bufs` gives what it has at the end
---     called           what a caller knows of the entry that it calls.        unasked     of a callee with no `requires`
+--     called           what a caller knows of the entry that it calls.        called-all     the same of a callee with several `ensures`.        unasked     of a callee with no `requires`
 -- Each reference has a lifetime of its own, in the order of the parameters, as where none is written.
 -- Assumes `Given`, and that the entry meets the callee's contract.
 use mathlib.Core.Path.{_≡_, subst}
@@ -29,6 +29,7 @@ use denote.Ref.{RefT}
 use denote.Slice.{finally}
 use denote.Steps.{heard, facts, nothing}
 use denote.Triple.Statement.{Contract, Triple}
+use Rattle.lloyd_events.proofs.Claims.{All, claims, all-shown}
 use Rattle.lloyd_events.proofs.Lent.{Slice, at-name, machine, has, shows-it, owned-at, lent, held, shared, lends, backs, twice, Left, Does, passes}
 
 pub data Arg : Type 2 where
@@ -286,22 +287,32 @@ module _ {M : Type 1} (𝓤 : URA M) (H : Heap 𝓤) (A : Atoms 𝓤) where
     pub unasked : (P : SProp 𝓤) → ent 𝓤 P (sep 𝓤 P (emp 𝓤))
     unasked P = qed W (raw P ∷ []) ∵ nothing ! $ move ! (1 ∷ []) $ done !
 
-    module _ (C : Calls 𝓤 H) (fm : FmC 𝓤 H (W .laws) C) (ks : List Arg) (g : Good ks) {f : Name} (c : Contract 𝓤) (met : Triple 𝓤 (C f) c) (y : Names ks → c .Ghost)
-        (R : RattleType) (val : R .Denot → Val) (tells : (r : R .Denot) (v : Val) → Is R r (v ∷ []) → v ≡ val r) (φ : R .Denot → Ends ks → Type 0) where
+    -- where what the callee says is Ψ, which shows φ
+    module _ (C : Calls 𝓤 H) (fm : FmC 𝓤 H (W .laws) C) (ks : List Arg) (g : Good ks) {f : Name} (c : Contract 𝓤) (met : Triple 𝓤 (C f) c) (y : Names ks → c .Ghost) (R : RattleType) (val : R .Denot → Val) (tells : (r : R .Denot) (v : Val) → Is R r (v ∷ []) → v ≡ val r)
+        (Ψ : R .Denot → Ends ks → SProp 𝓤) (φ : R .Denot → Ends ks → Type 0) (shown : (r : R .Denot) (ws : Ends ks) → ent 𝓤 (Ψ r ws) (fact 𝓤 (φ r ws))) where
       abbrev pub Said : Names ks → Val → R .Denot → SProp 𝓤
-      Said νs v r = sep 𝓤 (sep 𝓤 (toks ks νs) (sem 𝓤 H A (R .own r (v ∷ [])))) (ex 𝓤 (λ (ws : Ends ks). sep 𝓤 (told-of ks νs ws) (fact 𝓤 (φ r ws))))
+      Said νs v r = sep 𝓤 (sep 𝓤 (toks ks νs) (sem 𝓤 H A (R .own r (v ∷ [])))) (ex 𝓤 (λ (ws : Ends ks). sep 𝓤 (told-of ks νs ws) (Ψ r ws)))
 
-      pub called : ((νs : Names ks) → c .args (y νs) ≡ passed ks) → ((νs : Names ks) → ent 𝓤 (sep 𝓤 (toks ks νs) (owned-by ks νs)) (c .pre (y νs)))
+      called-by : ((νs : Names ks) → c .args (y νs) ≡ passed ks) → ((νs : Names ks) → ent 𝓤 (sep 𝓤 (toks ks νs) (owned-by ks νs)) (c .pre (y νs)))
           → ((νs : Names ks) (v : Val) → ent 𝓤 (c .post (y νs) v) (H .⇛ (ex 𝓤 (Said νs v)))) → Calling C f ks R val φ
-      called same asks tell = record {
+      called-by same asks tell = record {
         prf = qed W (raw (⋆ 𝓤 H A (bufs ks)) ∷ []) ∵ updating ! $ use1 W (later (some (λ (νs : Names ks). raw (toks ks νs) ⊛ raw (owned-by ks νs) ⊛ raw (keeps ks νs)))) (hands ks g) $ await ! tt $ pick ! (λ νs. split3 ! $ at-once ! $
             use2 W (raw (c .pre (y νs))) (asks νs) $ by ! (subst (λ (vs : List Val). ent 𝓤 (sep 𝓤 (c .pre (y νs)) (keeps ks νs)) (C f vs Leaves)) (same νs) (passes 𝓤 H A W C fm c met (y νs) (raw (keeps ks νs) ∷ []) Leaves (λ v.
             qed W (raw (c .post (y νs) v) ∷ raw (keeps ks νs) ∷ []) ∵ updating ! $
-            use1 W (later (some (λ (r : R .Denot). (raw (toks ks νs) ⊛ ‵ (R .own r (v ∷ []))) ⊛ some (λ (ws : Ends ks). raw (told-of ks νs ws) ⊛ raw (fact 𝓤 (φ r ws)))))) (tell νs v) $ await ! tt $ pick ! (λ r. split ! $ move ! (1 ∷ []) $ pick ! (λ ws.
-            split ! $ move ! (1 ∷ []) $ heard ! (φ r ws) (λ p. move ! (1 ∷ []) $ split ! $ move ! (1 ∷ []) $ facts ! R (Is R) (shows 𝓤 H A R) r (v ∷ []) (λ is.
+            use1 W (later (some (λ (r : R .Denot). (raw (toks ks νs) ⊛ ‵ (R .own r (v ∷ []))) ⊛ some (λ (ws : Ends ks). raw (told-of ks νs ws) ⊛ raw (Ψ r ws))))) (tell νs v) $ await ! tt $ pick ! (λ r. split ! $ move ! (1 ∷ []) $ pick ! (λ ws.
+            split ! $ move ! (1 ∷ []) $ use1 W (raw (fact 𝓤 (φ r ws))) (shown r ws) $ heard ! (φ r ws) (λ p. move ! (1 ∷ []) $ split ! $ move ! (1 ∷ []) $ facts ! R (Is R) (shows 𝓤 H A R) r (v ∷ []) (λ is.
             use3 W (later (given (Kept ks ws) (raw (⋆ 𝓤 H A (bufs (after ks ws)))))) (returned ks g νs ws) $ await ! tt $ learn ! (λ k. at-once ! $
             show ! (λ (x : R .Denot × Ends ks). guard 𝓤 ((v ≡ val (x .0)) × Learnt ks R val φ x) (⋆ 𝓤 H A (bufs (after ks (x .1))))) (r, ws) $ check ! (tells r v is, (subst (λ (u : Val). Is R r (u ∷ [])) (tells r v is) is, (k, p))) $ by ! (id⊢ 𝓤 _))))))))));
       }
         where
           Leaves : Val → SProp 𝓤
           Leaves = Left 𝓤 H A (R .Denot × Ends ks) (Learnt ks R val φ) (λ x. val (x .0)) (λ x. bufs (after ks (x .1)))
+
+    module _ (C : Calls 𝓤 H) (fm : FmC 𝓤 H (W .laws) C) (ks : List Arg) (g : Good ks) {f : Name} (c : Contract 𝓤) (met : Triple 𝓤 (C f) c) (y : Names ks → c .Ghost) (R : RattleType) (val : R .Denot → Val) (tells : (r : R .Denot) (v : Val) → Is R r (v ∷ []) → v ≡ val r) where
+      pub called : (φ : R .Denot → Ends ks → Type 0) → ((νs : Names ks) → c .args (y νs) ≡ passed ks) → ((νs : Names ks) → ent 𝓤 (sep 𝓤 (toks ks νs) (owned-by ks νs)) (c .pre (y νs)))
+          → ((νs : Names ks) (v : Val) → ent 𝓤 (c .post (y νs) v) (H .⇛ (ex 𝓤 (Said C fm ks g c met y R val tells (λ r ws. fact 𝓤 (φ r ws)) φ (λ r ws. id⊢ 𝓤 _) νs v)))) → Calling C f ks R val φ
+      called φ = called-by C fm ks g c met y R val tells (λ r ws. fact 𝓤 (φ r ws)) φ (λ r ws. id⊢ 𝓤 _)
+
+      pub called-all : (φs : R .Denot → Ends ks → List (Type 0)) → ((νs : Names ks) → c .args (y νs) ≡ passed ks) → ((νs : Names ks) → ent 𝓤 (sep 𝓤 (toks ks νs) (owned-by ks νs)) (c .pre (y νs)))
+          → ((νs : Names ks) (v : Val) → ent 𝓤 (c .post (y νs) v) (H .⇛ (ex 𝓤 (Said C fm ks g c met y R val tells (λ r ws. claims 𝓤 (φs r ws)) (λ r ws. All (φs r ws)) (λ r ws. all-shown 𝓤 (φs r ws)) νs v)))) → Calling C f ks R val (λ r ws. All (φs r ws))
+      called-all φs = called-by C fm ks g c met y R val tells (λ r ws. claims 𝓤 (φs r ws)) (λ r ws. All (φs r ws)) (λ r ws. all-shown 𝓤 (φs r ws))

@@ -75,8 +75,8 @@ updateOf c = updated (termsOf c) (c .policy) (length (c .samples) / c .dim) (row
 abbrev pub updateAlone : Call → Outcome Repaired
 updateAlone c = andThen (updateChecks c) (λ u. updateOf c)
 
--- ---- the buffers afterwards: `before` where a check refuses, `done r` where the update is accepted, `begun` where it is refused once begun
-abbrev pub leaves : {B : Type 0} → Outcome Unit → Outcome Repaired → B → (Repaired → B) → B → B
+-- ---- the buffers afterwards: `before` where a check refuses, `done r` where the job is accepted, `begun` where it is refused once begun
+abbrev pub leaves : {A B : Type 0} → Outcome Unit → Outcome A → B → (A → B) → B → B
 leaves (refused n vs) o before done begun = before
 leaves (completed u) (completed r) before done begun = done r
 leaves (completed u) (refused n vs) before done begun = begun

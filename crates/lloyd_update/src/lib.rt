@@ -328,7 +328,7 @@ pub fn begin_update(
 
 // The end: an accepted update writes the codebook, and work is zeroed once updating has begun.
 pub fn finish_update(codebook: &mut [f64], work: &mut [f64], counts: &mut [u32], s: Step) -> Updated
-    requires { ⌜ length (now codebook) ≤ length (now work) ⌝ }
+    requires { ⌜ (s .begun ≡ true → length (now codebook) ≤ length (now work)) ⌝ }
     ensures answer { λ r. ⌜ r ≡ s .answer ⌝ }
     ensures codebook { λ r. ⌜ now (codebook .exit) ≡ cond (s .begun && isAccepted (s .answer)) (take (length (now (codebook .entry))) (now (work .entry))) (now (codebook .entry)) ⌝ }
     ensures work { λ r. ⌜ now (work .exit) ≡ cond (s .begun) (replicate (length (now (work .entry))) plusZero) (now (work .entry)) ⌝ }

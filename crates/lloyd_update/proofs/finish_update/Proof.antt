@@ -12,7 +12,7 @@ enum-told : tie.Need-enum-told
 enum-told c = search needs
 
 copy-words-requires : tie.Need-copy-words-requires
-copy-words-requires c κs = search needs
+copy-words-requires c κs = let i = c .before .before .before .before in i .before .before .before .before .pre (i .if1 .taken)
 
 enum-told-2 : tie.Need-enum-told-2
 enum-told-2 c = search needs
