@@ -1,7 +1,7 @@
--- What `firstLeast` finds among finite distances: the index of the first least, with its distance. Assumes nothing.
+-- What `firstLeast` finds among finite distances: the index of the first least, with its distance; among any, an index below their number. Assumes nothing.
 use mathlib.Core.Path.{_≡_, refl, sym, _∙_, subst}
 use Prim.Native.Nat.{ℕ, zero, suc, _+_, _<_, _≤_}
-use native.Mathlib.Nat.{zero-lt-suc, lt-suc-self, le-step}
+use native.Mathlib.Nat.{zero-lt-suc, lt-suc-self, le-step, le-of-eq, le-trans, le-suc}
 use native.Mathlib.Omega.{arith}
 use native.Mathlib.Numerals.{add-one}
 use mathlib.Core.Bool.{Bool, true, false, not}
@@ -60,3 +60,17 @@ module _ (d : ℕ → Float) where
   pub first-least : (n : ℕ) → 1 ≤ n → ((i : ℕ) → i < n → T (finite (d i))) → Least d n (firstLeast d n)
   first-least zero h fine = absurd (omega arith)
   first-least (suc n) h fine = least-of n fine
+
+-- ---- an index is below the number of codewords, whatever the distances
+picked : (b : Bool) (f : Found) (n : ℕ) (x : Float) → f .index ≤ n → pick b (record { index = n; distance = x }) f .index ≤ n
+picked true f n x h = le-of-eq refl
+picked false f n x h = h
+
+index-upto : (d : ℕ → Float) (n : ℕ) → firstLeast d (suc n) .index ≤ n
+unfolding firstLeast
+index-upto d zero = picked (lt (d 0) (firstLeast d 0 .distance)) (firstLeast d 0) 0 (d 0) (le-of-eq refl)
+index-upto d (suc n) = picked (lt (d (suc n)) (firstLeast d (suc n) .distance)) (firstLeast d (suc n)) (suc n) (d (suc n)) (le-trans (index-upto d n) (le-suc n))
+
+pub index-below : (d : ℕ → Float) (n : ℕ) → 1 ≤ n → firstLeast d n .index < n
+index-below d zero h = absurd (omega arith)
+index-below d (suc n) h = let l = index-upto d n in omega arith

@@ -1,0 +1,2 @@
+pub mod AddLaw
+pub mod BeginLaw
