@@ -187,7 +187,7 @@ fn add_samples(
 }
 
 // How many cells are empty.
-fn count_empty(counts: &[u32]) -> usize
+pub fn count_empty(counts: &[u32]) -> usize
     ensures { λ r. ⌜ r ≡ countTo (λ c. getD (now (counts .entry)) c 0) 0 (length (now (counts .entry))) ⌝ }
 {
     let mut empty = 0usize;

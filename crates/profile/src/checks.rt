@@ -133,7 +133,7 @@ const INFINITY: u64 = 0x7FF0_0000_0000_0000;
 const MINUS_INFINITY: u64 = 0xFFF0_0000_0000_0000;
 
 // Neither a NaN nor an infinity.
-fn is_finite(x: f64) -> bool
+pub fn is_finite(x: f64) -> bool
     ensures { λ r. ⌜ r ≡ finite x ⌝ }
 {
     if f64::from_bits(MINUS_INFINITY) < x {

@@ -1,6 +1,7 @@
 // The profile of a quantiser, its limits and its checks: module profile.rs of fib-quant, without digest and message texts.
 // specs/Valid.antt has the order, the numbers and the values of the checks. log2 of the codebook size is handed in.
-mod checks;
+// Public only for the checks of a report.
+pub mod checks;
 
 use error::Checked;
 use error::Refusal;

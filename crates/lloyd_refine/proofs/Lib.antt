@@ -1,0 +1,3 @@
+pub mod CheckLaw
+pub mod EventLaw
+pub mod TurnLaw

@@ -1,0 +1,4 @@
+pub mod Refine
+pub mod Report
+pub mod Standing
+pub mod Steps

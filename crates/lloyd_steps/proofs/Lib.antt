@@ -1,0 +1,3 @@
+pub mod RoundLaw
+pub mod RestartLaw
+pub mod BeginLaw
