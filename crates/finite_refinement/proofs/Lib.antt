@@ -1,0 +1,4 @@
+pub mod RatesLaw
+pub mod ReachedLaw
+pub mod FiniteRefinementLaw
+pub mod ReportLaw

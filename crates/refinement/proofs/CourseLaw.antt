@@ -1,0 +1,135 @@
+-- The course of an accepted refinement: what stands before each of its rounds, and what each comes to. It is document 01's, round after round.
+-- Assumes nothing.
+use mathlib.Core.Path.{_≡_, refl, sym, ap, _∙_}
+use mathlib.Core.Logic.{inl, inr}
+use Prim.Native.Nat.{ℕ, zero, suc, _≤_, _<_}
+use native.Mathlib.Nat.{le-refl, eq-or-lt-of-le, le-of-suc-le-suc}
+use native.Mathlib.Omega.{arith}
+use mathlib.Core.Bool.{Bool, true, false, cond}
+use mathlib.Core.List.{List, []}
+use lib.ListN.{length}
+use lib.Ieee.{lt}
+use Rattle.error.specs.Numbers.{Outcome, completed, refused, andThen}
+use Rattle.lloyd_events.specs.declared.LloydRepairEvent.{LloydRepairEvent}
+use Rattle.lloyd_search.proofs.AnswersLaw.{completed-same}
+use Rattle.lloyd_cells.specs.Repair.{Repaired}
+use Rattle.lloyd_cells.proofs.TallyLaw.{then-completed}
+use Rattle.lloyd_round.specs.Round.{meansOf}
+use Rattle.lloyd_refine.specs.Refine.{Job, sizeOf, dimOf, countOf, restartsOf, iterationsOf, Trained, roundOf, afterRound, roundOn, roundsTo, startOf, errorOf, Best, startBest, trainedFrom, afterRestart, restartOn, restartsTo}
+use Rattle.refinement.specs.Refinement.{Course, Ran}
+
+-- ---- what a completed outcome holds
+module _ {A : Type 0} where
+  abbrev held : A → Outcome A → A
+  held other (completed x) = x
+  held other (refused n vs) = other
+
+  holds : (other : A) (o : Outcome A) (x : A) → o ≡ completed x → o ≡ completed (held other o)
+  holds other o x h = h ∙ ap (λ (q : Outcome A). completed (held other q)) (sym h)
+
+module _ (j : Job) where
+  abbrev R : ℕ
+  R = restartsOf j
+
+  abbrev I : ℕ
+  I = iterationsOf j
+
+  -- what the first r restarts come to
+  abbrev pub bestAt : ℕ → Best
+  bestAt r = held (startBest j) (restartsTo j r)
+
+  abbrev pub roundsAt : ℕ → ℕ → Outcome Trained
+  roundsAt r i = roundsTo j r (trainedFrom j r (bestAt r)) i
+
+  abbrev pub standAt : ℕ → ℕ → Trained
+  standAt r i = held (trainedFrom j r (bestAt r)) (roundsAt r i)
+
+  abbrev pub outcomeAt : ℕ → ℕ → Outcome Repaired
+  outcomeAt r i = roundOf j r i (length (standAt r i .events)) (standAt r i .codebook)
+
+  abbrev pub repairsAt : ℕ → ℕ → Repaired
+  repairsAt r i = held (record { cells = meansOf (dimOf j) (sizeOf j) (countOf j) (j .samples) (j .initial); events = [] }) (outcomeAt r i)
+
+  abbrev pub courseOf : Course
+  courseOf = record { stand = standAt; repairs = repairsAt }
+
+  -- ---- what is completed was completed before
+  restarts-before : (n r : ℕ) (b : Best) → r ≤ n → restartsTo j n ≡ completed b → (a : Best) × (restartsTo j r ≡ completed a)
+  unfolding restartsTo
+  restarts-before zero r b l h = elim (eq-or-lt-of-le l) [ inl e ↦ (b, rw e h) | inr m ↦ absurd (omega arith) ]
+  restarts-before (suc n) r b l h = elim (eq-or-lt-of-le l) [
+    | inl e ↦ (b, rw e h)
+    | inr m ↦ let (a, p, q) = then-completed (restartsTo j n) (restartOn j n) b h in restarts-before n r a (le-of-suc-le-suc m) p
+  ]
+
+  rounds-before : (r : ℕ) (t : Trained) (n i : ℕ) (e : Trained) → i ≤ n → roundsTo j r t n ≡ completed e → (s : Trained) × (roundsTo j r t i ≡ completed s)
+  unfolding roundsTo
+  rounds-before r t zero i e l h = elim (eq-or-lt-of-le l) [ inl q ↦ (e, rw q h) | inr m ↦ absurd (omega arith) ]
+  rounds-before r t (suc n) i e l h = elim (eq-or-lt-of-le l) [
+    | inl q ↦ (e, rw q h)
+    | inr m ↦ let (a, p, q) = then-completed (roundsTo j r t n) (roundOn j r n) e h in rounds-before r t n i a (le-of-suc-le-suc m) p
+  ]
+
+  same-events : (q : Bool) (x y : Best) (events : List LloydRepairEvent) → x .events ≡ events → y .events ≡ events → cond q x y .events ≡ events
+  same-events true x y events h k = h
+  same-events false x y events h k = k
+
+  module _ (b : Best) (done : restartsTo j R ≡ completed b) where
+    pub best-came : (r : ℕ) → r ≤ R → restartsTo j r ≡ completed (bestAt r)
+    best-came r l = let (a, h) = restarts-before R r b l done in holds (startBest j) (restartsTo j r) a h
+
+    pub best-last : bestAt R ≡ b
+    best-last = ap (held (startBest j)) done
+
+    module _ (r : ℕ) (l : r < R) where
+      -- restart r, from what the earlier ones came to
+      restarted : restartOn j r (bestAt r) ≡ completed (bestAt (suc r))
+      unfolding restartsTo
+      restarted = sym (ap (λ (o : Outcome Best). andThen o (restartOn j r)) (best-came r (omega arith))) ∙ best-came (suc r) l
+
+      ended : (t : Trained) × (roundsAt r I ≡ completed t) × (completed (afterRestart j r (bestAt r) t) ≡ completed (bestAt (suc r)))
+      ended = then-completed (roundsAt r I) (λ t. completed (afterRestart j r (bestAt r) t)) (bestAt (suc r)) restarted
+
+      pub stand-came : (i : ℕ) → i ≤ I → roundsAt r i ≡ completed (standAt r i)
+      stand-came i m =
+          let (s, h) = rounds-before r (trainedFrom j r (bestAt r)) I i (ended .0) m (ended .1) in
+          holds (trainedFrom j r (bestAt r)) (roundsAt r i) s h
+
+      pub best-next : bestAt (suc r) ≡ afterRestart j r (bestAt r) (standAt r I)
+      best-next = sym (completed-same _ _ (ended .2)) ∙ ap (λ (t : Trained). afterRestart j r (bestAt r) t) (completed-same _ _ (sym (ended .1) ∙ stand-came I (le-refl I)))
+
+      events-next : bestAt (suc r) .events ≡ standAt r I .events
+      events-next = ap (λ (x : Best). x .events) best-next ∙ same-events (lt (errorOf j (standAt r I .codebook)) (bestAt r .error)) _ _ (standAt r I .events) refl refl
+
+      starts : standAt r 0 .codebook ≡ startOf j r
+      unfolding roundsTo
+      starts = refl
+
+      module _ (i : ℕ) (m : i < I) where
+        went : (u : Repaired) × (outcomeAt r i ≡ completed u) × (completed (afterRound j (standAt r i) u) ≡ completed (standAt r (suc i)))
+        unfolding roundsTo
+        went =
+            then-completed (outcomeAt r i) (λ u. completed (afterRound j (standAt r i) u)) (standAt r (suc i))
+            (sym (ap (λ (o : Outcome Trained). andThen o (roundOn j r i)) (stand-came i (omega arith))) ∙ stand-came (suc i) m)
+
+        pub round-came : outcomeAt r i ≡ completed (repairsAt r i)
+        round-came = holds _ (outcomeAt r i) (went .0) (went .1)
+
+        pub stand-next : standAt r (suc i) ≡ afterRound j (standAt r i) (repairsAt r i)
+        stand-next = sym (completed-same _ _ (went .2)) ∙ ap (λ (u : Repaired). afterRound j (standAt r i) u) (completed-same _ _ (sym (went .1) ∙ round-came))
+
+    more-events : (r : ℕ) → suc r < R → standAt (suc r) 0 .events ≡ standAt r I .events
+    unfolding roundsTo
+    more-events r l = events-next r (omega arith)
+
+    pub ran : Ran j courseOf b
+    unfolding roundsTo restartsTo
+    ran = record {
+      starts = starts;
+      rounds = λ r i l m. round-came r l i m;
+      next = λ r i l m. stand-next r l i m;
+      came = λ r i l m. stand-came r l i m;
+      first-events = refl;
+      more-events = more-events;
+      last-events = λ r e. ap (λ (x : Best). x .events) (sym best-last ∙ ap bestAt (sym e)) ∙ events-next r (rw (← e) (le-refl (suc r)));
+    }

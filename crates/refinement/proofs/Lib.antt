@@ -1,0 +1,9 @@
+pub mod ChecksLaw
+pub mod DonorLaw
+pub mod CourseLaw
+pub mod WithinLaw
+pub mod StandLaw
+pub mod WinsLaw
+pub mod AloneLaw
+pub mod RoundsLaw
+pub mod RefinementLaw

@@ -1,0 +1,113 @@
+-- What demand 3 claims of a refinement: `AnyRefinement`, at the end; proofs/RefinementLaw.antt proves it of every job. It speaks of `refinement`, `roundOf`, `startOf`, `errorOf` and `slotsAfter`, the definitions for refine's own contract, and of histories as specs/History.antt has them.
+-- Document 01's terms: the start is candidate 0, the end of restart r is candidate r + 1; the error is measured before narrowing. Definitions only.
+use mathlib.Core.Path.{_≡_}
+use Prim.Native.Nat.{ℕ, zero, suc, _+_, _-_, _*_, _<_, _≤_}
+use mathlib.Core.Bool.{not}
+use mathlib.Core.List.{List, []}
+use lib.Dec.{T}
+use lib.ListN.{length, getD, take, drop}
+use lib.Ieee.{Float, lt}
+use lib.Ieee.Scale.{finite}
+use Rattle.error.specs.Numbers.{Value, completed, refused}
+use Rattle.slices.specs.Lists.{tabulate}
+use Rattle.lloyd_search.specs.Distance.{distance, rowOf}
+use Rattle.lloyd_search.specs.Nearest.{Least}
+use Rattle.lloyd_events.specs.declared.LloydRepairEvent.{LloydRepairEvent}
+use Rattle.lloyd_cells.specs.Repair.{Repaired}
+use Rattle.lloyd_round.specs.Round.{nearestCells}
+use Rattle.lloyd_refine.specs.Refine.{Job, sizeOf, dimOf, countOf, restartsOf, iterationsOf, Trained, roundOf, afterRound, roundsTo, startOf, errorOf, Best, Winner, start, restart, refinement, narrowed, codewordsAfter, slotsAfter}
+use Rattle.lloyd_refine.specs.Report.{reportOf}
+use Rattle.history.specs.History.{Request, callWith, after, answers, Tallies, History}
+
+-- ---- the course of a refinement
+-- `stand r i` is what stands before round i of restart r: the codebook, and the events of all rounds before, those of earlier restarts too. At i = I it is the end of restart r. `repairs r i` is what round i of restart r comes to.
+pub record Course : Type 0 where
+  pub stand : ℕ → ℕ → Trained
+  pub repairs : ℕ → ℕ → Repaired
+
+-- it is the course by document 01's rounds, and b has its events
+pub record Ran (j : Job) (c : Course) (b : Best) : Type 0 where
+  pub starts : (r : ℕ) → r < restartsOf j → c .stand r 0 .codebook ≡ startOf j r
+  pub rounds : (r i : ℕ) → r < restartsOf j → i < iterationsOf j → roundOf j r i (length (c .stand r i .events)) (c .stand r i .codebook) ≡ completed (c .repairs r i)
+  pub next : (r i : ℕ) → r < restartsOf j → i < iterationsOf j → c .stand r (suc i) ≡ afterRound j (c .stand r i) (c .repairs r i)
+  -- as the definitions for refine's contract go on from round to round
+  pub came : (r i : ℕ) → r < restartsOf j → i ≤ iterationsOf j → roundsTo j r (c .stand r 0) i ≡ completed (c .stand r i)
+  -- events are gathered from round to round and from restart to restart
+  pub first-events : c .stand 0 0 .events ≡ []
+  pub more-events : (r : ℕ) → suc r < restartsOf j → c .stand (suc r) 0 .events ≡ c .stand r (iterationsOf j) .events
+  pub last-events : (r : ℕ) → suc r ≡ restartsOf j → b .events ≡ c .stand r (iterationsOf j) .events
+
+-- ---- which codebook is returned
+-- the start, then the ends of restarts 0, 1, .., R - 1
+abbrev pub candidate : Job → Course → ℕ → List Float
+candidate j c zero = j .initial
+candidate j c (suc r) = c .stand r (iterationsOf j) .codebook
+
+abbrev pub placeOf : Winner → ℕ
+placeOf start = 0
+placeOf (restart r) = suc r
+
+-- of the finite errors of the candidates the least is returned, with its codebook: every other has no less, every earlier one more
+pub record Wins (j : Job) (c : Course) (b : Best) : Type 0 where
+  pub one-of : placeOf (b .winner) < suc (restartsOf j)
+  pub codebook : b .codebook ≡ candidate j c (placeOf (b .winner))
+  pub error : b .error ≡ errorOf j (b .codebook)
+  pub finite-errors : (p : ℕ) → p < suc (restartsOf j) → T (finite (errorOf j (candidate j c p)))
+  pub none-less : (p : ℕ) → p < suc (restartsOf j) → T (not (lt (errorOf j (candidate j c p)) (b .error)))
+  pub earlier-more : (p : ℕ) → p < placeOf (b .winner) → T (lt (b .error) (errorOf j (candidate j c p)))
+
+-- ---- the rounds of a restart are a history
+-- round i of restart r where t stands, as a request to update alone: nearest codewords as assignments, and the slots still free
+abbrev pub roundRequest : Job → ℕ → ℕ → Trained → Request
+roundRequest j r i t = record {
+  size = sizeOf j;
+  dim = dimOf j;
+  samples = j .samples;
+  assignments = nearestCells (dimOf j) (sizeOf j) (countOf j) (j .samples) (t .codebook);
+  policy = j .profile .«empty_cell_policy»;
+  restart = r;
+  iteration = i;
+  floatWork = 2 * (sizeOf j * dimOf j) + 2 * sizeOf j;
+  integerWork = sizeOf j;
+  slots = j .slots - length (t .events);
+}
+
+-- the first i rounds of restart r
+abbrev pub requestsTo : Job → Course → ℕ → ℕ → List Request
+requestsTo j c r i = tabulate i (λ m. roundRequest j r m (c .stand r m))
+
+-- the distance of sample s to codeword w where t stands
+abbrev pub toWord : Job → Trained → ℕ → ℕ → Float
+toWord j t s w = distance (dimOf j) (rowOf (dimOf j) (j .samples) s) (rowOf (dimOf j) (t .codebook) w)
+
+pub record Rounds (j : Job) (c : Course) (r : ℕ) : Type 0 where
+  -- from the restart's start the updates leave the codebooks of its course, the last one its end
+  pub codebooks : (i : ℕ) → i ≤ iterationsOf j → after (requestsTo j c r i) (startOf j r) ≡ c .stand r i .codebook
+  -- the assignment of a sample is the first codeword that none is strictly nearer than
+  pub nearest-words : (i s : ℕ) → i < iterationsOf j → s < countOf j
+      → let w = getD (roundRequest j r i (c .stand r i) .assignments) s 0 in Least (toWord j (c .stand r i) s) (sizeOf j) (record { index = w; distance = toWord j (c .stand r i) s w })
+  -- each is accepted, with the repairs of its round
+  pub accepted : answers (requestsTo j c r (iterationsOf j)) (startOf j r) ≡ tabulate (iterationsOf j) (λ i. completed (c .repairs r i))
+  -- so that all that is claimed of a history holds of them
+  pub history : History (requestsTo j c r (iterationsOf j)) (startOf j r)
+  -- the events of round i stand in the slots that the refinement leaves, from its first free one on, and its book (document 01's term for the tallies) is in order
+  pub events : (i : ℕ) → i < iterationsOf j → (slots : List LloydRepairEvent) → take (length (c .repairs r i .events)) (drop (length (c .stand r i .events)) (slotsAfter j slots)) ≡ c .repairs r i .events
+  pub tallies : (i : ℕ) → i < iterationsOf j → (slots : List LloydRepairEvent)
+      → Tallies (callWith (roundRequest j r i (c .stand r i)) (c .stand r i .codebook)) (drop (length (c .stand r i .events)) (slotsAfter j slots)) (length (c .repairs r i .events))
+
+-- ---- what is claimed
+-- of an accepted refinement
+pub record AcceptedRefinement (j : Job) (b : Best) : Type 0 where
+  pub course : Course
+  pub ran : Ran j course b
+  pub wins : Wins j course b
+  pub restarts : (r : ℕ) → r < restartsOf j → Rounds j course r
+  -- the caller's codewords become that codebook, narrowed, and the report holds that error
+  pub written : (before : List Float) → codewordsAfter j before ≡ narrowed (b .codebook)
+  pub reported : reportOf j b .«best_mse» ≡ b .error
+
+-- of any
+pub record AnyRefinement (j : Job) : Type 0 where
+  pub accepts : (b : Best) → refinement j ≡ completed b → AcceptedRefinement j b
+  -- samples are at least as many as codewords, so "no donor" never comes
+  pub donor : (vs : List Value) → refinement j ≡ refused 15 vs → ⊥
