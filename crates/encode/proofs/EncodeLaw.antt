@@ -1,37 +1,21 @@
--- The encoder's work step by step, and the index that a search answers. Assumes nothing.
+-- The encoder's work step by step, and the indices of its blocks. Assumes nothing.
 use mathlib.Core.Path.{_≡_, refl, sym, ap, _∙_}
-use Prim.Native.Nat.{ℕ, zero, suc, _+_, _*_, _%_, _/_, _^_, _≤_, _<_}
-use native.Mathlib.Nat.{le-of-eq, le-trans, le-suc, lt-of-lt-of-le}
+use Prim.Native.Nat.{ℕ, _+_, _^_, _≤_, _<_}
+use native.Mathlib.Nat.{le-of-eq, lt-of-lt-of-le}
 use native.Mathlib.Omega.{arith}
-use mathlib.Core.Bool.{Bool, true, false}
 use mathlib.Core.List.{List, [], _∷_, _++_}
 use lib.ListN.{length, getD, take, drop, length-append, length-drop}
 use lib.Seq.{ext-getD, getD-drop, getD-append-add}
-use lib.Ieee.{Float, nan, binary32, lt}
+use lib.Ieee.{Float, nan, binary32}
 use Rattle.slices.specs.Lists.{tabulate, patched}
 use Rattle.slices.proofs.ListLaw.{length-patched, patched-inside}
 use Rattle.slices.proofs.TabulateLaw.{length-tabulate, getD-tabulate}
 use Rattle.narrow.specs.Pack.{narrowTo}
 use Rattle.rotation.specs.Apply.{applied}
-use Rattle.lloyd_search.specs.declared.Found.{Found}
 use Rattle.lloyd_search.specs.Distance.{rowOf, distance}
-use Rattle.lloyd_search.specs.Nearest.{firstLeast, pick}
+use Rattle.lloyd_search.proofs.NearestLaw.{index-below}
 use Rattle.decode.proofs.ListLaw.{take-patched}
 use Rattle.encode.specs.Encode.{normalizedAt, searchedAt, searched, indexFor, indicesFor}
-
--- ---- an index is below the number of codewords, whatever the distances
-picked : (b : Bool) (f : Found) (n : ℕ) (x : Float) → f .index ≤ n → pick b (record { index = n; distance = x }) f .index ≤ n
-picked true f n x h = le-of-eq refl
-picked false f n x h = h
-
-index-upto : (d : ℕ → Float) (n : ℕ) → firstLeast d (suc n) .index ≤ n
-unfolding firstLeast
-index-upto d zero = picked (lt (d 0) (firstLeast d 0 .distance)) (firstLeast d 0) 0 (d 0) (le-of-eq refl)
-index-upto d (suc n) = picked (lt (d (suc n)) (firstLeast d (suc n) .distance)) (firstLeast d (suc n)) (suc n) (d (suc n)) (le-trans (index-upto d n) (le-suc n))
-
-pub index-below : (d : ℕ → Float) (n : ℕ) → 1 ≤ n → firstLeast d n .index < n
-index-below d zero h = absurd (omega arith)
-index-below d (suc n) h = let l = index-upto d n in omega arith
 
 module _ (count k n : ℕ) (codewords xs : List Float) where
   pub length-indices : length (indicesFor count k n codewords xs) ≡ count

@@ -1,6 +1,6 @@
-// The steps of encoding a vector into a compact frame: its norm, every check, and the frame. From codec.rs of fib-quant, without digests.
+// Encodes a vector into a compact frame: its norm, every check, and the frame. From codec.rs of fib-quant, without digests.
 // specs/Encode.antt has the order of the checks, their numbers and values, and the frame that is written.
-// The three public functions are public only for the entry point, which docs/DECISIONS.md says is still to come.
+// The entry point is `encode`, at the end.
 use bitpack::BitWriter;
 use error::Checked;
 use error::Refusal;
@@ -12,14 +12,15 @@ ghost use mathlib.Core.List.{_++_};
 ghost use Prim.Native.Nat.{_+_, _*_, _/_, _≤_, _<_};
 ghost use lib.ListN.{length, getD, drop, replicate};
 ghost use lib.Ieee.{nan, binary32};
-ghost use Rattle.error.specs.Numbers.{checked};
+ghost use Rattle.error.specs.Numbers.{checked, ifCompleted};
 ghost use Rattle.ieee.specs.Sum.{plusZero};
 ghost use Rattle.slices.specs.Lists.{patched};
 ghost use Rattle.narrow.specs.Pack.{narrowTo};
 ghost use Rattle.bitpack.specs.Layout.{packedBytes};
 ghost use Rattle.compact.specs.Frame.{bytesOf, header, frameOf};
 ghost use Rattle.norm.specs.Norm.{bitsOf};
-ghost use Rattle.encode.specs.Encode.{normOf, normalizedAt, searched, indicesFor, lengths, normed, codable};
+ghost use Rattle.decode.specs.Decode.{accepted, contents};
+ghost use Rattle.encode.specs.Encode.{normOf, normalizedAt, searched, indicesFor, lengths, normed, codable, encoding};
 ghost use Rattle.encode.specs.Work.{Searchable, Writable};
 
 // The lengths of matrix, codewords, input, output and float work.
@@ -56,7 +57,7 @@ fn check_lengths(
 }
 
 // The root of the sum of the squares.
-pub fn l2_norm(input: &[f32]) -> f64
+fn l2_norm(input: &[f32]) -> f64
     ensures { λ r. ⌜ r ≡ normOf (now (input .entry)) ⌝ }
 {
     let mut sum = 0.0;
@@ -84,7 +85,7 @@ fn check_norm(input: &[f32], norm: f64) -> NormBits
 }
 
 // Every check, and the norm's pattern. Nothing is written before all of them are passed.
-pub fn check_input(
+fn check_input(
     profile: FibQuantProfile,
     schema: &[u8],
     rotation_algorithm: &[u8],
@@ -217,7 +218,7 @@ fn write_frame(
 }
 
 // The frame of an input whose norm and its pattern are known. The work is zeroed.
-pub fn write_code(
+fn write_code(
     matrix: &[f64],
     codewords: &[f32],
     n: usize,
@@ -240,4 +241,59 @@ pub fn write_code(
     round_half(work, d);
     write_frame(codewords, n, k, count, width, bits, &work[d..], output);
     slices::zero_f64(work);
+}
+
+// The frame of a vector: its norm, and for each block the index of the nearest codeword. A refusal leaves both buffers as they were.
+pub fn encode(
+    profile: FibQuantProfile,
+    schema: &[u8],
+    rotation_algorithm: &[u8],
+    log2: f64,
+    matrix: &[f64],
+    codewords: &[f32],
+    input: &[f32],
+    output: &mut [u8],
+    work: &mut [f64],
+) -> Checked
+    ensures { λ r. ⌜ checked r ≡ accepted (encoding profile (now (schema .entry)) (now («rotation_algorithm» .entry)) log2 (now (matrix .entry)) (now (codewords .entry)) (now (input .entry)) (length (now (output .entry))) (length (now (work .entry)))) ⌝ }
+    ensures { λ r. ⌜ now (output .exit) ≡ contents (encoding profile (now (schema .entry)) (now («rotation_algorithm» .entry)) log2 (now (matrix .entry)) (now (codewords .entry)) (now (input .entry)) (length (now (output .entry))) (length (now (work .entry)))) (now (output .entry)) ⌝ }
+    ensures { λ r. ⌜ now (work .exit) ≡ ifCompleted (encoding profile (now (schema .entry)) (now («rotation_algorithm» .entry)) log2 (now (matrix .entry)) (now (codewords .entry)) (now (input .entry)) (length (now (output .entry))) (length (now (work .entry)))) (replicate (length (now (work .entry))) plusZero) (now (work .entry)) ⌝ }
+{
+    let norm = l2_norm(input);
+    let checks = check_input(
+        profile,
+        schema,
+        rotation_algorithm,
+        log2,
+        matrix,
+        codewords,
+        input,
+        norm,
+        output.len(),
+        work.len(),
+    );
+    match checks {
+        NormBits::Refused(refusal) => Checked::Refused(refusal),
+        NormBits::Bits(bits) => {
+            let d = profile.ambient_dim;
+            let k = profile.block_dim;
+            let n = profile.codebook_size;
+            let width = profile.wire_index_bits;
+            let count = d / k;
+            write_code(
+                matrix,
+                codewords,
+                n as usize,
+                k as usize,
+                count,
+                width,
+                input,
+                norm,
+                bits,
+                output,
+                work,
+            );
+            Checked::Accepted
+        }
+    }
 }

@@ -16,7 +16,8 @@ use Rattle.lloyd_search.specs.Distance.{rowOf, distance}
 use Rattle.lloyd_search.specs.Nearest.{nearest}
 use Rattle.lloyd_search.proofs.Parts.{row-fits, part-length, part-nearest}
 use Rattle.encode.specs.Encode.{indexFor, indicesFor}
-use Rattle.encode.proofs.EncodeLaw.{index-below, length-indices, getD-indices, index-fits}
+use Rattle.lloyd_search.proofs.NearestLaw.{index-below}
+use Rattle.encode.proofs.EncodeLaw.{length-indices, getD-indices, index-fits}
 use borrow.Author.Needs.{needs}
 use Rattle.encode.proofs.write_indices.Statement.{statement}
 use Rattle.encode.proofs.write_indices.Tie as tie
@@ -40,7 +41,7 @@ loop-holds c =
 inside : (c : tie.In-loop Inv-loop μ-loop) → let a = c .before .before .before .before .before .before .args in c .before .loop .at + a .k ≤ length (a .values .now)
 inside c =
     let s = c .before .before .before .before .before .before in
-    row-fits (c .before .loop .i) (s .args .count) (s .args .k) (c .before .loop .at) (length (s .args .values .now)) (c .loop-test .taken) (c .before .loop .inv .1) (s .pre .blocks)
+    row-fits (c .before .loop .i) (s .args .count) (s .args .k) (c .before .loop .at) (length (s .args .values .now)) (omega arith) (c .before .loop .inv .1) (s .pre .blocks)
 
 add-end : tie.Need-add-end Inv-loop μ-loop
 add-end c = record { fits = omega (arith, inside c) }
