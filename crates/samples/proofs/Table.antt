@@ -54,7 +54,7 @@ unfolding paddingRow bits field streamBit packedSize
 paddingRow-holds = refl
 
 frameRow-holds : frameRow .given ≡ frameRow .stated
-unfolding frameRow bits field listOf packedBit bytesOf header frameOf
+unfolding frameRow bits field listOf packedBit bytesOf header frameOf normBits lt unpacked halfOf packed narrowTo
 frameRow-holds = refl
 
 normRow-holds : normRow .given ≡ normRow .stated

@@ -5,12 +5,12 @@ use mathlib.Core.Bool.{true, false}
 use mathlib.Core.List.{List, [], _∷_, _++_, map}
 use lib.IntN.{pos, negsuc}
 use lib.Ieee.{Float, fin, binary32, binary64, add, sub, ofInt}
-use Rattle.error.specs.Numbers.{Outcome, completed, refused, Value, whole, real}
+use Rattle.error.specs.Numbers.{Outcome, completed, refused, andThen, Value, whole, real}
 use Rattle.profile.specs.declared.EmptyCellPolicy.the-variants.{SplitHighestDistortion}
 use Rattle.profile.specs.Paper.{wireBitsOf}
 use Rattle.bitpack.specs.Layout.{packedBytes}
 use Rattle.bitpack.specs.Answers.{unpackable}
-use Rattle.compact.specs.Frame.{frameOf}
+use Rattle.compact.specs.Frame.{bytesOf, frameOf}
 use Rattle.narrow.specs.Pack.{narrowTo}
 use Rattle.norm.specs.Norm.{normBits}
 use Rattle.root.specs.Sqrt.{sqrtOf}
@@ -101,7 +101,7 @@ paddingRow = record { given = shown (λ u. []) (unpackable (0xDD ∷ 0x03 ∷ []
 
 unfoldable pub frameRow : Row
 unfolding update floats float
-frameRow = record { given = numbers (frameOf 3 3 (0x00 ∷ 0x3C ∷ []) (packedBytes (5 ∷ 3 ∷ 7 ∷ []) 3)); stated = numbers (0x46 ∷ 0x42 ∷ 0x31 ∷ 0x01 ∷ 0x03 ∷ 0x03 ∷ 0x00 ∷ 0x00 ∷ 0x00 ∷ 0x02 ∷ 0x00 ∷ 0x00 ∷ 0x3C ∷ 0xDD ∷ 0x01 ∷ []) }
+frameRow = record { given = shown numbers (andThen (normBits (float 1)) (λ bits. completed (frameOf 3 3 (bytesOf 2 bits) (packedBytes (5 ∷ 3 ∷ 7 ∷ []) 3)))); stated = numbers (0 ∷ 0x46 ∷ 0x42 ∷ 0x31 ∷ 0x01 ∷ 0x03 ∷ 0x03 ∷ 0x00 ∷ 0x00 ∷ 0x00 ∷ 0x02 ∷ 0x00 ∷ 0x00 ∷ 0x3C ∷ 0xDD ∷ 0x01 ∷ []) }
 
 unfoldable pub normRow : Row
 unfolding update floats float
