@@ -1,4 +1,1 @@
-pub mod Crossing
-pub mod Codes
-pub mod Profiles
 pub mod Frames

@@ -1,12 +1,12 @@
 // Conversions and the square root for the host. They refuse nothing.
-use crate::crossing::put;
+use ffi_crossing::put;
 ghost use mathlib.Core.Path.{_≡_};
 ghost use lib.Ieee.{binary32, binary64, toBits};
 ghost use Rattle.error.specs.Numbers.{completed};
 ghost use Rattle.narrow.specs.Format.{unpacked};
 ghost use Rattle.narrow.specs.Pack.{packed, narrowTo};
 ghost use Rattle.root.specs.Sqrt.{sqrtOf};
-ghost use Rattle.ffi.specs.Crossing.{found, crossed, oneWhole, oneReal};
+ghost use Rattle.ffi_crossing.specs.Crossing.{found, crossed, oneWhole, oneReal};
 
 // The pattern of x; every NaN has the quiet one without a sign.
 fn bits_of(x: f32) -> u32

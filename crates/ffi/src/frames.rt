@@ -1,12 +1,12 @@
 // Compact frames for the host.
-use crate::crossing::put;
-use crate::crossing::put_checked;
-use crate::crossing::put_refusal;
 use compact::Parsed;
+use ffi_crossing::put;
+use ffi_crossing::put_checked;
+use ffi_crossing::put_refusal;
 ghost use mathlib.Core.Path.{_≡_};
 ghost use Rattle.error.specs.Numbers.{ifCompleted};
 ghost use Rattle.compact.specs.Frame.{writing, frameOf, parsed};
-ghost use Rattle.ffi.specs.Crossing.{found, crossed, none};
+ghost use Rattle.ffi_crossing.specs.Crossing.{found, crossed, none};
 ghost use Rattle.ffi.specs.Frames.{lengthsIn};
 
 // A frame into `output`, which must be as long as it.

@@ -1,14 +1,14 @@
 // Rotations and the mean squared error for the host.
-use crate::crossing::put;
-use crate::crossing::put_checked;
-use crate::crossing::put_refusal;
+use ffi_crossing::put;
+use ffi_crossing::put_checked;
+use ffi_crossing::put_refusal;
 use metrics::MeanError;
 ghost use mathlib.Core.Path.{_≡_};
 ghost use lib.ListN.{length};
 ghost use Rattle.error.specs.Numbers.{ifCompleted};
 ghost use Rattle.rotation.specs.Apply.{applied, appliedInverse, shape};
 ghost use Rattle.metrics.specs.Mse.{mseOutcome};
-ghost use Rattle.ffi.specs.Crossing.{found, crossed, none, oneReal};
+ghost use Rattle.ffi_crossing.specs.Crossing.{found, crossed, none, oneReal};
 
 // The matrix times the input.
 #[no_mangle]

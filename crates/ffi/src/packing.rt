@@ -1,11 +1,11 @@
 // Packed indices for the host.
-use crate::crossing::put_checked;
+use ffi_crossing::put_checked;
 ghost use mathlib.Core.Path.{_≡_};
 ghost use lib.ListN.{length};
 ghost use Rattle.error.specs.Numbers.{ifCompleted};
 ghost use Rattle.bitpack.specs.Layout.{packedBytes, unpackedIndices};
 ghost use Rattle.bitpack.specs.Answers.{packable, unpackable};
-ghost use Rattle.ffi.specs.Crossing.{found, crossed, none};
+ghost use Rattle.ffi_crossing.specs.Crossing.{found, crossed, none};
 
 // Indices into `output`, which must be as long as their packing.
 #[no_mangle]

@@ -1,8 +1,7 @@
 // The profile's checks, its default, and the numbers worked out from it, for the host.
-use crate::codes;
-use crate::crossing::put;
-use crate::crossing::put_checked;
-use crate::crossing::put_refusal;
+use ffi_crossing::put;
+use ffi_crossing::put_checked;
+use ffi_crossing::put_refusal;
 use profile::BlockCount;
 use profile::FibQuantProfile;
 use profile::PaperProfile;
@@ -11,8 +10,8 @@ use profile::WireBits;
 ghost use mathlib.Core.Path.{_≡_};
 ghost use Rattle.profile.specs.Valid.{validity};
 ghost use Rattle.profile.specs.Paper.{paperOf, wireBitsOf, blockCountOf, samplesOf};
-ghost use Rattle.ffi.specs.Crossing.{found, crossed, none, oneWhole};
-ghost use Rattle.ffi.specs.Profiles.{profileFrom, fieldsOf, ratesIn, fieldsAfter};
+ghost use Rattle.ffi_crossing.specs.Crossing.{found, crossed, none, oneWhole};
+ghost use Rattle.ffi_profile.specs.Profiles.{profileFrom, ratesIn, fieldsAfter};
 
 // A whole profile.
 #[no_mangle]
@@ -41,24 +40,24 @@ pub extern "C" fn fib_validate_profile(
 ) -> u32
     ensures { λ r. ⌜ found r (now (whole .exit)) (now (real .exit)) ≡ crossed none (validity (profileFrom «ambient_dim» «block_dim» «codebook_size» «paper_rate» «wire_index_bits» «wire_rate» «norm_format» «rotation_seed» «codebook_seed» «source_mode» «radius_method» «direction_method» restarts iterations «training_samples» «empty_cell_policy») (now (schema .entry)) (now («rotation_algorithm» .entry)) log2) ⌝ }
 {
-    let profile = FibQuantProfile {
+    let profile = ffi_profile::profile_from(
         ambient_dim,
         block_dim,
         codebook_size,
-        paper_rate_bits_per_coord: paper_rate,
+        paper_rate,
         wire_index_bits,
-        wire_bits_per_coord: wire_rate,
-        norm_format: codes::norm_format_at(norm_format),
+        wire_rate,
+        norm_format,
         rotation_seed,
         codebook_seed,
-        source_mode: codes::source_mode_at(source_mode),
-        radius_method: codes::radius_method_beside(direction_method, radius_method),
-        direction_method: codes::direction_method_at(direction_method),
-        lloyd_restarts: restarts,
-        lloyd_iterations: iterations,
+        source_mode,
+        radius_method,
+        direction_method,
+        restarts,
+        iterations,
         training_samples,
-        empty_cell_policy: codes::policy_at(empty_cell_policy),
-    };
+        empty_cell_policy,
+    );
     let verdict = profile.validate(schema, rotation_algorithm, log2);
     put_checked(verdict, whole, real)
 }
@@ -83,24 +82,24 @@ pub extern "C" fn fib_wire_index_bits(
 fn with_dimensions(ambient_dim: u32, block_dim: u32) -> FibQuantProfile
     ensures { λ r. ⌜ (r .«ambient_dim» ≡ «ambient_dim») × (r .«block_dim» ≡ «block_dim») ⌝ }
 {
-    FibQuantProfile {
+    ffi_profile::profile_from(
         ambient_dim,
         block_dim,
-        codebook_size: 0,
-        paper_rate_bits_per_coord: 0.0,
-        wire_index_bits: 0,
-        wire_bits_per_coord: 0.0,
-        norm_format: codes::norm_format_at(0),
-        rotation_seed: 0,
-        codebook_seed: 0,
-        source_mode: codes::source_mode_at(0),
-        radius_method: codes::radius_method_beside(0, 0),
-        direction_method: codes::direction_method_at(0),
-        lloyd_restarts: 0,
-        lloyd_iterations: 0,
-        training_samples: 0,
-        empty_cell_policy: codes::policy_at(0),
-    }
+        0,
+        0.0,
+        0,
+        0.0,
+        0,
+        0,
+        0,
+        0,
+        0,
+        0,
+        0,
+        0,
+        0,
+        0,
+    )
 }
 
 // The number of blocks in whole[0].
@@ -136,33 +135,6 @@ pub extern "C" fn fib_default_training_samples(
     }
 }
 
-// The fields that are no floats.
-fn fields_of(profile: FibQuantProfile) -> [u64; 14]
-    ensures { λ r. ⌜ r ≡ fieldsOf profile ⌝ }
-{
-    let norm_format = profile.norm_format;
-    let source_mode = profile.source_mode;
-    let radius_method = profile.radius_method;
-    let direction_method = profile.direction_method;
-    let empty_cell_policy = profile.empty_cell_policy;
-    [
-        profile.ambient_dim as u64,
-        profile.block_dim as u64,
-        profile.codebook_size as u64,
-        profile.wire_index_bits as u64,
-        codes::norm_format_code(norm_format),
-        profile.rotation_seed,
-        profile.codebook_seed,
-        codes::source_mode_code(source_mode),
-        codes::radius_method_code(radius_method),
-        codes::direction_method_code(direction_method),
-        profile.lloyd_restarts as u64,
-        profile.lloyd_iterations as u64,
-        profile.training_samples as u64,
-        codes::policy_code(empty_cell_policy),
-    ]
-}
-
 // The paper's profile: its rates in `real`, its other fields in `fields`.
 #[no_mangle]
 pub extern "C" fn fib_paper_default(
@@ -181,7 +153,7 @@ pub extern "C" fn fib_paper_default(
     let answer = FibQuantProfile::paper_default(ambient_dim, block_dim, codebook_size, seed, log2);
     match answer {
         PaperProfile::Built(profile) => {
-            *fields = fields_of(profile);
+            *fields = ffi_profile::fields_of(profile);
             let paper = profile.paper_rate_bits_per_coord;
             let wire = profile.wire_bits_per_coord;
             put(0, [0, 0, 0, 0], [paper, wire], whole, real)

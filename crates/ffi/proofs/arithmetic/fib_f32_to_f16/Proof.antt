@@ -1,7 +1,7 @@
 -- `ffi::arithmetic::fib_f32_to_f16` meets its contract: what crosses is the pattern. Assumes nothing.
 use mathlib.Core.Path.{_∙_}
 use lib.Ieee.{ofBits}
-use Rattle.ffi.proofs.CrossingLaws.{one-whole}
+use Rattle.ffi_crossing.proofs.CrossingLaws.{one-whole}
 use borrow.Author.Needs.{needs}
 use Rattle.ffi.proofs.arithmetic.fib_f32_to_f16.Statement.{statement}
 use Rattle.ffi.proofs.arithmetic.fib_f32_to_f16.Tie as tie

@@ -1,7 +1,7 @@
 -- `ffi::arithmetic::fib_sqrt` meets its contract: what crosses is the root. Assumes nothing.
 use mathlib.Core.Path.{_∙_}
 use lib.Ieee.{ofBits}
-use Rattle.ffi.proofs.CrossingLaws.{one-real}
+use Rattle.ffi_crossing.proofs.CrossingLaws.{one-real}
 use borrow.Author.Needs.{needs}
 use Rattle.ffi.proofs.arithmetic.fib_sqrt.Statement.{statement}
 use Rattle.ffi.proofs.arithmetic.fib_sqrt.Tie as tie

@@ -3,9 +3,9 @@ use mathlib.Core.Path.{sym, ap, _∙_}
 use lib.Ieee.{ofBits}
 use denote.Ref.{now}
 use Rattle.compact.specs.Frame.{outcomeOf}
-use Rattle.ffi.specs.Crossing.{crossed, none, wholeValues, realValues}
+use Rattle.ffi_crossing.specs.Crossing.{crossed, none, wholeValues, realValues}
 use Rattle.ffi.specs.Frames.{lengthsIn}
-use Rattle.ffi.proofs.CrossingLaws.{same-refusal}
+use Rattle.ffi_crossing.proofs.CrossingLaws.{same-refusal}
 use borrow.Author.Needs.{needs}
 use Rattle.ffi.proofs.frames.fib_parse_frame.Statement.{statement}
 use Rattle.ffi.proofs.frames.fib_parse_frame.Tie as tie

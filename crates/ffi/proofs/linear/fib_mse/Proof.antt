@@ -2,8 +2,8 @@
 use mathlib.Core.Path.{refl, sym, ap, _∙_}
 use lib.Ieee.{ofBits}
 use Rattle.metrics.specs.Mse.{meanError}
-use Rattle.ffi.specs.Crossing.{crossed, none, oneReal}
-use Rattle.ffi.proofs.CrossingLaws.{one-real, same-refusal}
+use Rattle.ffi_crossing.specs.Crossing.{crossed, none, oneReal}
+use Rattle.ffi_crossing.proofs.CrossingLaws.{one-real, same-refusal}
 use borrow.Author.Needs.{needs}
 use Rattle.ffi.proofs.linear.fib_mse.Statement.{statement}
 use Rattle.ffi.proofs.linear.fib_mse.Tie as tie

@@ -5,9 +5,10 @@ use Prim.Native.Nat.{ℕ}
 use Rattle.error.specs.Numbers.{Outcome}
 use Rattle.profile.specs.declared.FibQuantProfile.{FibQuantProfile}
 use Rattle.profile.specs.Paper.{paperProfile}
-use Rattle.ffi.specs.Crossing.{crossed, none, wholeValues, realValues}
-use Rattle.ffi.specs.Profiles.{ratesIn, fieldsAfter}
-use Rattle.ffi.proofs.CrossingLaws.{same-refusal, fields-kept}
+use Rattle.ffi_crossing.specs.Crossing.{crossed, none, wholeValues, realValues}
+use Rattle.ffi_profile.specs.Profiles.{ratesIn, fieldsAfter}
+use Rattle.ffi_crossing.proofs.CrossingLaws.{same-refusal}
+use Rattle.ffi_profile.proofs.ProfileLaws.{fields-kept}
 use borrow.Author.Needs.{needs}
 use Rattle.ffi.proofs.profiles.fib_paper_default.Statement.{statement}
 use Rattle.ffi.proofs.profiles.fib_paper_default.Tie as tie

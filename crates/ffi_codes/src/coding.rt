@@ -1,0 +1,142 @@
+// Encoding and decoding for the host. The fields of a profile are those of `fib_validate_profile`.
+use ffi_crossing::put_checked;
+ghost use mathlib.Core.Path.{_≡_};
+ghost use lib.ListN.{length, replicate};
+ghost use Rattle.error.specs.Numbers.{ifCompleted};
+ghost use Rattle.ieee.specs.Sum.{plusZero};
+ghost use Rattle.decode.specs.Decode.{decodable, decoding, accepted, contents};
+ghost use Rattle.encode.specs.Encode.{encoding};
+ghost use Rattle.ffi_profile.specs.Profiles.{profileFrom};
+ghost use Rattle.ffi_crossing.specs.Crossing.{found, crossed, none};
+
+// The frame of a vector into `output`, which must be as long as it.
+#[no_mangle]
+pub extern "C" fn fib_encode(
+    schema: &[u8],
+    ambient_dim: u32,
+    block_dim: u32,
+    codebook_size: u32,
+    log2: f64,
+    paper_rate: f64,
+    wire_index_bits: u8,
+    wire_rate: f64,
+    norm_format: u8,
+    rotation_seed: u64,
+    rotation_algorithm: &[u8],
+    codebook_seed: u64,
+    source_mode: u8,
+    radius_method: u8,
+    direction_method: u8,
+    restarts: u32,
+    iterations: u32,
+    training_samples: u32,
+    empty_cell_policy: u8,
+    matrix: &[f64],
+    codewords: &[f32],
+    input: &[f32],
+    output: &mut [u8],
+    work: &mut [f64],
+    whole: &mut [u64; 4],
+    real: &mut [f64; 2],
+) -> u32
+    ensures { λ r. ⌜ found r (now (whole .exit)) (now (real .exit)) ≡ crossed none (accepted (encoding (profileFrom «ambient_dim» «block_dim» «codebook_size» «paper_rate» «wire_index_bits» «wire_rate» «norm_format» «rotation_seed» «codebook_seed» «source_mode» «radius_method» «direction_method» restarts iterations «training_samples» «empty_cell_policy») (now (schema .entry)) (now («rotation_algorithm» .entry)) log2 (now (matrix .entry)) (now (codewords .entry)) (now (input .entry)) (length (now (output .entry))) (length (now (work .entry))))) ⌝ }
+    ensures { λ r. ⌜ now (output .exit) ≡ contents (encoding (profileFrom «ambient_dim» «block_dim» «codebook_size» «paper_rate» «wire_index_bits» «wire_rate» «norm_format» «rotation_seed» «codebook_seed» «source_mode» «radius_method» «direction_method» restarts iterations «training_samples» «empty_cell_policy») (now (schema .entry)) (now («rotation_algorithm» .entry)) log2 (now (matrix .entry)) (now (codewords .entry)) (now (input .entry)) (length (now (output .entry))) (length (now (work .entry)))) (now (output .entry)) ⌝ }
+    ensures { λ r. ⌜ now (work .exit) ≡ ifCompleted (encoding (profileFrom «ambient_dim» «block_dim» «codebook_size» «paper_rate» «wire_index_bits» «wire_rate» «norm_format» «rotation_seed» «codebook_seed» «source_mode» «radius_method» «direction_method» restarts iterations «training_samples» «empty_cell_policy») (now (schema .entry)) (now («rotation_algorithm» .entry)) log2 (now (matrix .entry)) (now (codewords .entry)) (now (input .entry)) (length (now (output .entry))) (length (now (work .entry)))) (replicate (length (now (work .entry))) plusZero) (now (work .entry)) ⌝ }
+{
+    let profile = ffi_profile::profile_from(
+        ambient_dim,
+        block_dim,
+        codebook_size,
+        paper_rate,
+        wire_index_bits,
+        wire_rate,
+        norm_format,
+        rotation_seed,
+        codebook_seed,
+        source_mode,
+        radius_method,
+        direction_method,
+        restarts,
+        iterations,
+        training_samples,
+        empty_cell_policy,
+    );
+    let answer = encode::encode(
+        profile,
+        schema,
+        rotation_algorithm,
+        log2,
+        matrix,
+        codewords,
+        input,
+        output,
+        work,
+    );
+    put_checked(answer, whole, real)
+}
+
+// The vector of a frame into `output`.
+#[no_mangle]
+pub extern "C" fn fib_decode(
+    schema: &[u8],
+    ambient_dim: u32,
+    block_dim: u32,
+    codebook_size: u32,
+    log2: f64,
+    paper_rate: f64,
+    wire_index_bits: u8,
+    wire_rate: f64,
+    norm_format: u8,
+    rotation_seed: u64,
+    rotation_algorithm: &[u8],
+    codebook_seed: u64,
+    source_mode: u8,
+    radius_method: u8,
+    direction_method: u8,
+    restarts: u32,
+    iterations: u32,
+    training_samples: u32,
+    empty_cell_policy: u8,
+    matrix: &[f64],
+    codewords: &[f32],
+    bytes: &[u8],
+    output: &mut [f32],
+    work: &mut [f64],
+    whole: &mut [u64; 4],
+    real: &mut [f64; 2],
+) -> u32
+    ensures { λ r. ⌜ found r (now (whole .exit)) (now (real .exit)) ≡ crossed none (accepted (decoding (profileFrom «ambient_dim» «block_dim» «codebook_size» «paper_rate» «wire_index_bits» «wire_rate» «norm_format» «rotation_seed» «codebook_seed» «source_mode» «radius_method» «direction_method» restarts iterations «training_samples» «empty_cell_policy») (now (schema .entry)) (now («rotation_algorithm» .entry)) log2 (now (matrix .entry)) (now (codewords .entry)) (length (now (output .entry))) (length (now (work .entry))) (now (bytes .entry)))) ⌝ }
+    ensures { λ r. ⌜ now (output .exit) ≡ contents (decoding (profileFrom «ambient_dim» «block_dim» «codebook_size» «paper_rate» «wire_index_bits» «wire_rate» «norm_format» «rotation_seed» «codebook_seed» «source_mode» «radius_method» «direction_method» restarts iterations «training_samples» «empty_cell_policy») (now (schema .entry)) (now («rotation_algorithm» .entry)) log2 (now (matrix .entry)) (now (codewords .entry)) (length (now (output .entry))) (length (now (work .entry))) (now (bytes .entry))) (now (output .entry)) ⌝ }
+    ensures { λ r. ⌜ now (work .exit) ≡ ifCompleted (decodable (profileFrom «ambient_dim» «block_dim» «codebook_size» «paper_rate» «wire_index_bits» «wire_rate» «norm_format» «rotation_seed» «codebook_seed» «source_mode» «radius_method» «direction_method» restarts iterations «training_samples» «empty_cell_policy») (now (schema .entry)) (now («rotation_algorithm» .entry)) log2 (now (matrix .entry)) (now (codewords .entry)) (length (now (output .entry))) (length (now (work .entry))) (now (bytes .entry))) (replicate (length (now (work .entry))) plusZero) (now (work .entry)) ⌝ }
+{
+    let profile = ffi_profile::profile_from(
+        ambient_dim,
+        block_dim,
+        codebook_size,
+        paper_rate,
+        wire_index_bits,
+        wire_rate,
+        norm_format,
+        rotation_seed,
+        codebook_seed,
+        source_mode,
+        radius_method,
+        direction_method,
+        restarts,
+        iterations,
+        training_samples,
+        empty_cell_policy,
+    );
+    let answer = decode::decode(
+        profile,
+        schema,
+        rotation_algorithm,
+        log2,
+        matrix,
+        codewords,
+        bytes,
+        output,
+        work,
+    );
+    put_checked(answer, whole, real)
+}

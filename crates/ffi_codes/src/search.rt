@@ -1,0 +1,55 @@
+// The search for the nearest codeword, and the mean error of a codebook, for the host.
+use ffi_crossing::put;
+use ffi_crossing::put_refusal;
+use lloyd_search::CodebookError;
+use lloyd_search::NearestCodeword;
+ghost use mathlib.Core.Path.{_≡_};
+ghost use Rattle.lloyd_search.specs.Answers.{nearestAlone, meanErrorAlone};
+ghost use Rattle.ffi_crossing.specs.Crossing.{found, crossed, oneReal};
+ghost use Rattle.ffi_codes.specs.Search.{foundIn};
+
+// The index in whole[0], its distance in real[0].
+#[no_mangle]
+pub extern "C" fn fib_nearest(
+    codewords: &[f64],
+    codebook_size: u64,
+    block_dim: u64,
+    block: &[f64],
+    whole: &mut [u64; 4],
+    real: &mut [f64; 2],
+) -> u32
+    ensures { λ r. ⌜ found r (now (whole .exit)) (now (real .exit)) ≡ crossed foundIn (nearestAlone «codebook_size» «block_dim» (now (codewords .entry)) (now (block .entry))) ⌝ }
+{
+    let answer = lloyd_search::nearest_index(codewords, codebook_size, block_dim, block);
+    match answer {
+        NearestCodeword::Nearest(found) => {
+            put(
+                0,
+                [found.index as u64, 0, 0, 0],
+                [found.distance, 0.0],
+                whole,
+                real,
+            )
+        }
+        NearestCodeword::Refused(refusal) => put_refusal(refusal, whole, real),
+    }
+}
+
+// The error in real[0].
+#[no_mangle]
+pub extern "C" fn fib_mean_error(
+    codewords: &[f64],
+    codebook_size: u64,
+    block_dim: u64,
+    samples: &[f64],
+    whole: &mut [u64; 4],
+    real: &mut [f64; 2],
+) -> u32
+    ensures { λ r. ⌜ found r (now (whole .exit)) (now (real .exit)) ≡ crossed oneReal (meanErrorAlone «codebook_size» «block_dim» (now (codewords .entry)) (now (samples .entry))) ⌝ }
+{
+    let answer = lloyd_search::mse_for_codebook(codewords, codebook_size, block_dim, samples);
+    match answer {
+        CodebookError::Mean(error) => put(0, [0, 0, 0, 0], [error, 0.0], whole, real),
+        CodebookError::Refused(refusal) => put_refusal(refusal, whole, real),
+    }
+}
