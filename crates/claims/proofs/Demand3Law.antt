@@ -1,8 +1,9 @@
 -- Demand 3 holds. Assumes nothing.
 use Rattle.history.proofs.HistoryLaw.{history}
+use Rattle.rule.proofs.RuleLaw.{rule}
 use Rattle.refinement.proofs.RefinementLaw.{any-refinement}
 use Rattle.codes.proofs.CodesLaw.{encoded-blocks}
 use Rattle.claims.specs.Demand3.{Demand3}
 
 pub demand3 : Demand3
-demand3 = record { histories = history; refinements = any-refinement; blocks = encoded-blocks }
+demand3 = record { histories = history; rules = rule; refinements = any-refinement; blocks = encoded-blocks }

@@ -26,9 +26,10 @@ use Rattle.refinement.proofs.ChecksLaw.{Checked, checked}
 use Rattle.refinement.proofs.DonorLaw.{cell-below}
 use Rattle.refinement.proofs.StandLaw.{rows-bounded, samples-within, matrix-upto, word-upto}
 use Rattle.refinement.proofs.WinsLaw.{error-finite}
+use Rattle.refinement.proofs.TameLaw.{Tame, reached-tame}
 use Rattle.finite_refinement.specs.FiniteRefinement.{FiniteRotation, FiniteRound, FiniteError, FiniteNarrowed, FiniteRefinement}
 use Rattle.finite_refinement.proofs.RatesLaw.{rates-finite}
-use Rattle.finite_refinement.proofs.ReachedLaw.{Tame, initial-tame, reached-tame, best-tame}
+use Rattle.finite_refinement.proofs.BestLaw.{initial-tame, best-tame}
 
 -- values of at most 2 ^ b: binary32 holds 2 ^ b, which rounding does not pass
 narrowed-finite : (b : ℕ) → b ≤ 104 → (x : Float) → Upto x (2 ^ b) → T (finite (narrowTo binary32 x))

@@ -1,4 +1,4 @@
 pub mod RatesLaw
-pub mod ReachedLaw
+pub mod BestLaw
 pub mod FiniteRefinementLaw
 pub mod ReportLaw

@@ -15,7 +15,7 @@ use Rattle.lloyd_refine.specs.Refine.{Job, restartsOf, refineChecks, errorOf, B
 use Rattle.lloyd_refine.specs.Report.{reportSchema, reportTest}
 use Rattle.refinement.proofs.ChecksLaw.{checked}
 use Rattle.finite_refinement.specs.FiniteRefinement.{FiniteErrors, FiniteReport}
-use Rattle.finite_refinement.proofs.ReachedLaw.{best-tame}
+use Rattle.finite_refinement.proofs.BestLaw.{best-tame}
 use Rattle.finite_refinement.proofs.FiniteRefinementLaw.{refinement-finite}
 
 pub errors-finite : (j : Job) → refineChecks j ≡ completed tt → FiniteErrors j

@@ -15,16 +15,10 @@ use Rattle.rotation.specs.Apply.{rowSum}
 use Rattle.lloyd_search.specs.Distance.{rowOf}
 use Rattle.lloyd_search.specs.Finite.{FiniteNearest, FiniteMean}
 use Rattle.lloyd_round.specs.Round.{cellOf}
-use Rattle.lloyd_refine.specs.Refine.{Job, sizeOf, dimOf, countOf, restartsOf, iterationsOf, roundTerms, Trained, roundsTo, matrixOf, initialWord, errorOf, Best, trainedFrom, restartsTo, refinement, narrowed}
+use Rattle.lloyd_refine.specs.Refine.{Job, sizeOf, dimOf, countOf, restartsOf, iterationsOf, roundTerms, Trained, matrixOf, initialWord, errorOf, Best, refinement, narrowed}
 use Rattle.lloyd_refine.specs.Report.{reportOf, reportSchema, reportTest}
 use Rattle.finite.specs.Finite.{FiniteStep}
-
--- ---- how far a refinement comes
--- t stands before round i of restart r, or at the restart's end where i is I: the earlier restarts and the earlier rounds are completed. What comes later may be refused.
-pub record Reached (j : Job) (r i : ℕ) (t : Trained) : Type 0 where
-  pub best : Best
-  pub restarts : restartsTo j r ≡ completed best
-  pub rounds : roundsTo j r (trainedFrom j r best) i ≡ completed t
+use Rattle.refinement.specs.Refinement.{Reached}
 
 -- ---- its parts
 -- a rate that the profile's check expects beside the one given: k as a float, the quotient by it, and the difference

@@ -35,7 +35,7 @@ use Rattle.refinement.proofs.StandLaw.{samples-within}
 
 -- ---- an update that is completed is completed whatever number refusal 19 would show
 module _ (t : Terms) (m : ℕ) (far : ℕ → ℕ → Float) where
-  abbrev showing : Terms
+  abbrev pub showing : Terms
   showing = record { dim = t .dim; cells = t .cells; restart = t .restart; iteration = t .iteration; free = t .free; shown = m }
 
   module _ (e : ℕ) (r s : Repaired) where
@@ -57,7 +57,7 @@ module _ (t : Terms) (m : ℕ) (far : ℕ → ℕ → Float) where
         go true k = repair-shown (donorTo (r .cells .tally) (r .cells .distortion) (t .cells)) k
         go false k = k
 
-  repairs-shown : (st : Cells) (e : ℕ) (r : Repaired) → repairTo t far st e ≡ completed r → repairTo showing far st e ≡ completed r
+  pub repairs-shown : (st : Cells) (e : ℕ) (r : Repaired) → repairTo t far st e ≡ completed r → repairTo showing far st e ≡ completed r
   unfolding repairTo
   repairs-shown st zero r h = h
   repairs-shown st (suc e) r h =
@@ -87,7 +87,7 @@ module _ (j : Job) (pass : Checked j) (r i : ℕ) (t : Trained) (size : length (
   abbrev cells : List ℕ
   cells = roundCall .assignments
 
-  count-is : length (j .samples) / dimOf j ≡ countOf j
+  pub count-is : length (j .samples) / dimOf j ≡ countOf j
   count-is = div-eq-of-eq-mul-left (pass .profile .shape .some-block) (pass .samples)
 
   codebook-shaped : codebookShaped (sizeOf j) (dimOf j) (length (t .codebook)) ≡ true

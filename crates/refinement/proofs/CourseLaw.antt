@@ -2,21 +2,27 @@
 -- Assumes nothing.
 use mathlib.Core.Path.{_≡_, refl, sym, ap, _∙_}
 use mathlib.Core.Logic.{inl, inr}
-use Prim.Native.Nat.{ℕ, zero, suc, _≤_, _<_}
-use native.Mathlib.Nat.{le-refl, eq-or-lt-of-le, le-of-suc-le-suc}
+use Prim.Native.Nat.{ℕ, zero, suc, _+_, _-_, _*_, _/_, _%_, _≤_, _<_}
+use native.Mathlib.Nat.{le-refl, eq-or-lt-of-le, le-of-suc-le-suc, div-eq-of-lt, mod-eq-of-lt, mul-add-div-right, mul-add-mod-self-right}
 use native.Mathlib.Omega.{arith}
 use mathlib.Core.Bool.{Bool, true, false, cond}
 use mathlib.Core.List.{List, []}
-use lib.ListN.{length}
-use lib.Ieee.{lt}
+use lib.ListN.{length, getD, drop}
+use lib.Seq.{getD-take, getD-drop}
+use lib.Ieee.{nan, lt}
+use borrow.Author.Tests.{ne-eqb}
 use Rattle.error.specs.Numbers.{Outcome, completed, refused, andThen}
+use Rattle.ieee.proofs.Bound.{sumTo-ext}
+use Rattle.slices.proofs.TabulateLaw.{getD-tabulate}
+use Rattle.rotation.specs.Apply.{appliedAt}
+use Rattle.lloyd_search.proofs.Parts.{row-place}
 use Rattle.lloyd_events.specs.declared.LloydRepairEvent.{LloydRepairEvent}
 use Rattle.lloyd_search.proofs.AnswersLaw.{completed-same}
 use Rattle.lloyd_cells.specs.Repair.{Repaired}
 use Rattle.lloyd_cells.proofs.TallyLaw.{then-completed}
 use Rattle.lloyd_round.specs.Round.{meansOf}
-use Rattle.lloyd_refine.specs.Refine.{Job, sizeOf, dimOf, countOf, restartsOf, iterationsOf, Trained, roundOf, afterRound, roundOn, roundsTo, startOf, errorOf, Best, startBest, trainedFrom, afterRestart, restartOn, restartsTo}
-use Rattle.refinement.specs.Refinement.{Course, Ran}
+use Rattle.lloyd_refine.specs.Refine.{Job, sizeOf, dimOf, countOf, restartsOf, iterationsOf, Trained, roundOf, afterRound, roundOn, roundsTo, matrixOf, initialWord, rotated, startOf, errorOf, Best, startBest, trainedFrom, afterRestart, restartOn, restartsTo}
+use Rattle.refinement.specs.Refinement.{Course, turnedAt, Ran}
 
 -- ---- what a completed outcome holds
 module _ {A : Type 0} where
@@ -26,6 +32,24 @@ module _ {A : Type 0} where
 
   holds : (other : A) (o : Outcome A) (x : A) → o ≡ completed x → o ≡ completed (held other o)
   holds other o x h = h ∙ ap (λ (q : Outcome A). completed (held other q)) (sym h)
+
+-- the values of a start, by those of the matrices and of the initial codebook
+turned : (j : Job) (r w i : ℕ) → w < sizeOf j → i < dimOf j → getD (rotated j r) (w * dimOf j + i) nan ≡ turnedAt j r w i
+turned j r w i u v =
+    let n = sizeOf j in
+    let k = dimOf j in
+    let some : 0 < k = omega arith in
+    let word : (w * k + i) / k ≡ w = mul-add-div-right some w i ∙ ap (λ (z : ℕ). w + z) (div-eq-of-lt v) ∙ omega arith in
+    let row : (w * k + i) % k ≡ i = mul-add-mod-self-right w k i ∙ mod-eq-of-lt v in
+    getD-tabulate (n * k) (λ m. appliedAt k (matrixOf j r) (initialWord j (m / k)) (m % k)) (w * k + i) nan (row-place w n k i (n * k) u v refl)
+    ∙ rw (word, row)
+    (sumTo-ext _ _ k (λ m l.
+    rw (
+      getD-take (k * k) (drop ((r - 1) * (k * k)) (j .matrices)) (i * k + m) nan (row-place i k k m (k * k) v l refl),
+      getD-drop ((r - 1) * (k * k)) (j .matrices) (i * k + m) nan,
+      getD-take k (drop (w * k) (j .initial)) m nan l,
+      getD-drop (w * k) (j .initial) m nan,
+    )))
 
 module _ (j : Job) where
   abbrev R : ℕ
@@ -118,6 +142,10 @@ module _ (j : Job) where
         pub stand-next : standAt r (suc i) ≡ afterRound j (standAt r i) (repairsAt r i)
         stand-next = sym (completed-same _ _ (went .2)) ∙ ap (λ (u : Repaired). afterRound j (standAt r i) u) (completed-same _ _ (sym (went .1) ∙ round-came))
 
+    later-starts : (r w i : ℕ) → 0 < r → r < R → w < sizeOf j → i < dimOf j → getD (standAt r 0 .codebook) (w * dimOf j + i) nan ≡ turnedAt j r w i
+    unfolding roundsTo
+    later-starts r w i o l u v = rw (ne-eqb r 0 (λ e. omega arith)) (turned j r w i u v)
+
     more-events : (r : ℕ) → suc r < R → standAt (suc r) 0 .events ≡ standAt r I .events
     unfolding roundsTo
     more-events r l = events-next r (omega arith)
@@ -126,6 +154,8 @@ module _ (j : Job) where
     unfolding roundsTo restartsTo
     ran = record {
       starts = starts;
+      first-start = refl;
+      later-starts = later-starts;
       rounds = λ r i l m. round-came r l i m;
       next = λ r i l m. stand-next r l i m;
       came = λ r i l m. stand-came r l i m;

@@ -49,12 +49,12 @@ module _ (k n S : ℕ) (samples codebook : List Float) where
   tally-total h = total-count (cellOf k n S samples codebook) n S (cell-below h)
 
 module _ {A : Type 0} where
-  never : (x : A) (n : ℕ) (vs : List Value) → completed x ≡ refused n vs → ⊥
+  pub never : (x : A) (n : ℕ) (vs : List Value) → completed x ≡ refused n vs → ⊥
   never x n vs h = let z : _≡_ {A = ℕ} 0 1 = cc in omega arith
 
 module _ (j : Job) (pass : Checked j) where
   -- ---- a round, a restart, all of them
-  round-donor : (r i used : ℕ) (codebook : List Float) (vs : List Value) → roundOf j r i used codebook ≡ refused 15 vs → ⊥
+  pub round-donor : (r i used : ℕ) (codebook : List Float) (vs : List Value) → roundOf j r i used codebook ≡ refused 15 vs → ⊥
   unfolding updated
   round-donor r i used codebook vs h =
       let n = sizeOf j in

@@ -3,7 +3,9 @@ pub mod DonorLaw
 pub mod CourseLaw
 pub mod WithinLaw
 pub mod StandLaw
+pub mod TameLaw
 pub mod WinsLaw
 pub mod AloneLaw
 pub mod RoundsLaw
+pub mod RefusedLaw
 pub mod RefinementLaw

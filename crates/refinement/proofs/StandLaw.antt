@@ -1,7 +1,6 @@
--- Every codebook on the way of an accepted refinement has n * k values of at most 2 ^ 48: the start, the rotated starts, and what a round leaves. So each passes the check of update alone.
--- `UpdatesKept` is assumed of updates.
-use mathlib.Core.Path.{_≡_, refl, ap, _∙_}
-use Prim.Native.Nat.{ℕ, zero, suc, _+_, _-_, _*_, _/_, _%_, _^_, _≤_, _<_}
+-- Where a restart starts: the initial codebook and the rotated ones have n * k values of at most 2 ^ 48, and so have codewords that are bounded so. Each passes the check of update alone. Assumes nothing.
+use mathlib.Core.Path.{_≡_, refl}
+use Prim.Native.Nat.{ℕ, _+_, _-_, _*_, _/_, _%_, _^_, _≤_, _<_}
 use native.Mathlib.Nat.{lt-of-le-of-lt, mod-lt, div-lt-iff-lt-mul, mul-le-mul-right}
 use native.Mathlib.Omega.{arith}
 use native.Mathlib.Decide.{ℕ-discrete}
@@ -12,31 +11,20 @@ use lib.ListN.{length, getD, drop}
 use lib.Seq.{getD-take, getD-drop}
 use lib.Ieee.{Float, nan, binary64, mul}
 use borrow.Author.Tests.{eq-eqb, ne-eqb}
-use Rattle.error.specs.Numbers.{completed}
 use Rattle.ieee.specs.Bounds.{Upto}
 use Rattle.ieee.proofs.Bound.{mul-upto, sumTo-upto, upto-mono}
 use Rattle.slices.specs.declared.First.the-variants.{Nowhere}
 use Rattle.slices.specs.Limit.{firstOutside}
 use Rattle.slices.proofs.TabulateLaw.{length-tabulate, getD-tabulate}
-use Rattle.profile.specs.declared.EmptyCellPolicy.{EmptyCellPolicy}
 use Rattle.rotation.specs.Apply.{appliedAt}
 use Rattle.lloyd_search.specs.Distance.{rowOf}
 use Rattle.lloyd_search.proofs.Parts.{row-place}
 use Rattle.lloyd_search.proofs.LimitLaw.{power, all-within}
 use Rattle.lloyd_search.proofs.FiniteLaw.{Bounded}
-use Rattle.lloyd_cells.specs.Repair.{Terms, Repaired}
-use Rattle.lloyd_cells.specs.Update.{updated}
-use Rattle.lloyd_round.specs.Round.{cellOf}
 use Rattle.lloyd_update.specs.Alone.{updateLimit, wordsOf}
-use Rattle.lloyd_refine.specs.Refine.{Job, sizeOf, dimOf, countOf, restartsOf, iterationsOf, roundTerms, roundsTo, Trained, matrixOf, initialWord, rotated, startOf, Best, restartsTo}
+use Rattle.lloyd_refine.specs.Refine.{Job, sizeOf, dimOf, restartsOf, matrixOf, initialWord, rotated, startOf}
 use Rattle.refinement.proofs.ChecksLaw.{Checked}
-use Rattle.refinement.proofs.CourseLaw.{standAt, repairsAt, round-came, stand-next}
 use Rattle.refinement.proofs.WithinLaw.{all-upto, wider}
-
--- an accepted update of samples of at most 2 ^ 48 leaves codewords of at most 2 ^ 48
-abbrev pub UpdatesKept : Type 0
-UpdatesKept = (t : Terms) (S : ℕ) (x : ℕ → ℕ → Float) (a : ℕ → ℕ) (old : ℕ → ℕ → Float) → t .dim ≤ 256 → S ≤ 10000000 → ((s : ℕ) → s < S → Bounded 48 (t .dim) (x s))
-    → (policy : EmptyCellPolicy) (r : Repaired) → updated t policy S x a old ≡ completed r → (c j : ℕ) → c < t .cells → j < t .dim → Upto (r .cells .word c j) (2 ^ 48)
 
 pub rows-bounded : (b n k : ℕ) (xs : List Float) → firstOutside (power b) xs ≡ Nowhere → length xs ≡ n * k → (i : ℕ) → i < n → Bounded b k (rowOf k xs i)
 rows-bounded b n k xs h e i l c m = all-within b xs h (i * k + c) (row-place i n k c (length xs) l m e)
@@ -101,23 +89,3 @@ module _ (j : Job) (pass : Checked j) where
 
   pub start-within : (r : ℕ) → r < restartsOf j → firstOutside updateLimit (startOf j r) ≡ Nowhere
   start-within r l = elim (ℕ-discrete r 0) [ yes e ↦ rw (eq-eqb r 0 e) initial-within | no o ↦ rw (ne-eqb r 0 o) (rotated-within r l o) ]
-
-  -- ---- what stands before each round, and at the end
-  module _ (b : Best) (done : restartsTo j (restartsOf j) ≡ completed b) where
-    pub stand-length : (r i : ℕ) → r < restartsOf j → i ≤ iterationsOf j → length (standAt j r i .codebook) ≡ n * k
-    unfolding roundsTo
-    stand-length r zero l m = start-length r
-    stand-length r (suc i) l m = ap (λ (t : Trained). length (t .codebook)) (stand-next j b done r l i m) ∙ length-tabulate (n * k) _
-
-    module _ (kept : UpdatesKept) where
-      round-within : (r i : ℕ) → r < restartsOf j → i < iterationsOf j → firstOutside updateLimit (wordsOf n k (repairsAt j r i .cells .word)) ≡ Nowhere
-      round-within r i l m =
-          let t = standAt j r i in
-          words-within n k (repairsAt j r i .cells .word) some-block
-          (kept (roundTerms j r i (length (t .events))) (countOf j) (rowOf k (j .samples)) (cellOf k n (countOf j) (j .samples) (t .codebook)) (rowOf k (t .codebook)) few-block (pass .profile .settings .samples-most)
-          (rows-bounded 48 (countOf j) k (j .samples) samples-within (pass .samples)) (j .profile .«empty_cell_policy») (repairsAt j r i) (round-came j b done r l i m))
-
-      pub stand-within : (r i : ℕ) → r < restartsOf j → i ≤ iterationsOf j → firstOutside updateLimit (standAt j r i .codebook) ≡ Nowhere
-      unfolding roundsTo
-      stand-within r zero l m = start-within r l
-      stand-within r (suc i) l m = rw (stand-next j b done r l i m) (round-within r i l m)

@@ -1,21 +1,24 @@
 -- What demand 3 claims of a refinement: `AnyRefinement`, at the end; proofs/RefinementLaw.antt proves it of every job. It speaks of `refinement`, `roundOf`, `startOf`, `errorOf` and `slotsAfter`, the definitions for refine's own contract, and of histories as specs/History.antt has them.
 -- Document 01's terms: the start is candidate 0, the end of restart r is candidate r + 1; the error is measured before narrowing. Definitions only.
 use mathlib.Core.Path.{_≡_}
+use mathlib.Core.Logic.{_⊎_}
 use Prim.Native.Nat.{ℕ, zero, suc, _+_, _-_, _*_, _<_, _≤_}
 use mathlib.Core.Bool.{not}
-use mathlib.Core.List.{List, []}
+use mathlib.Core.List.{List, [], _∷_}
 use lib.Dec.{T}
 use lib.ListN.{length, getD, take, drop}
-use lib.Ieee.{Float, lt}
+use lib.Ieee.{Float, nan, binary64, mul, lt}
 use lib.Ieee.Scale.{finite}
-use Rattle.error.specs.Numbers.{Value, completed, refused}
+use Rattle.error.specs.Numbers.{Value, Outcome, completed, refused, whole}
+use Rattle.ieee.specs.Sum.{sumTo}
 use Rattle.slices.specs.Lists.{tabulate}
 use Rattle.lloyd_search.specs.Distance.{distance, rowOf}
 use Rattle.lloyd_search.specs.Nearest.{Least}
 use Rattle.lloyd_events.specs.declared.LloydRepairEvent.{LloydRepairEvent}
 use Rattle.lloyd_cells.specs.Repair.{Repaired}
 use Rattle.lloyd_round.specs.Round.{nearestCells}
-use Rattle.lloyd_refine.specs.Refine.{Job, sizeOf, dimOf, countOf, restartsOf, iterationsOf, Trained, roundOf, afterRound, roundsTo, startOf, errorOf, Best, Winner, start, restart, refinement, narrowed, codewordsAfter, slotsAfter}
+use Rattle.lloyd_update.specs.Alone.{updateChecks, updateAlone}
+use Rattle.lloyd_refine.specs.Refine.{Job, sizeOf, dimOf, countOf, restartsOf, iterationsOf, Trained, roundOf, afterRound, roundsTo, startOf, errorOf, Best, Winner, start, restart, trainedFrom, restartsTo, refineChecks, refinement, narrowed, codewordsAfter, slotsAfter}
 use Rattle.lloyd_refine.specs.Report.{reportOf}
 use Rattle.history.specs.History.{Request, callWith, after, answers, Tallies, History}
 
@@ -25,9 +28,16 @@ pub record Course : Type 0 where
   pub stand : ℕ → ℕ → Trained
   pub repairs : ℕ → ℕ → Repaired
 
+-- value i of codeword w, turned by matrix r, the first lent being 1, stored row by row: products and sums rounded, in the order of row i from +0
+abbrev pub turnedAt : Job → ℕ → ℕ → ℕ → Float
+turnedAt j r w i = sumTo (λ m. mul binary64 (getD (j .matrices) ((r - 1) * (dimOf j * dimOf j) + (i * dimOf j + m)) nan) (getD (j .initial) (w * dimOf j + m) nan)) (dimOf j)
+
 -- it is the course by document 01's rounds, and b has its events
 pub record Ran (j : Job) (c : Course) (b : Best) : Type 0 where
   pub starts : (r : ℕ) → r < restartsOf j → c .stand r 0 .codebook ≡ startOf j r
+  -- restart 0 starts at the initial codebook, every later one at the initial codebook turned by its matrix
+  pub first-start : c .stand 0 0 .codebook ≡ j .initial
+  pub later-starts : (r w i : ℕ) → 0 < r → r < restartsOf j → w < sizeOf j → i < dimOf j → getD (c .stand r 0 .codebook) (w * dimOf j + i) nan ≡ turnedAt j r w i
   pub rounds : (r i : ℕ) → r < restartsOf j → i < iterationsOf j → roundOf j r i (length (c .stand r i .events)) (c .stand r i .codebook) ≡ completed (c .repairs r i)
   pub next : (r i : ℕ) → r < restartsOf j → i < iterationsOf j → c .stand r (suc i) ≡ afterRound j (c .stand r i) (c .repairs r i)
   -- as the definitions for refine's contract go on from round to round
@@ -95,6 +105,18 @@ pub record Rounds (j : Job) (c : Course) (r : ℕ) : Type 0 where
   pub tallies : (i : ℕ) → i < iterationsOf j → (slots : List LloydRepairEvent)
       → Tallies (callWith (roundRequest j r i (c .stand r i)) (c .stand r i .codebook)) (drop (length (c .stand r i .events)) (slotsAfter j slots)) (length (c .repairs r i .events))
 
+-- ---- how far a refinement comes
+-- t stands before round i of restart r, or at the restart's end where i is I: the earlier restarts and the earlier rounds are completed. What comes later may be refused.
+pub record Reached (j : Job) (r i : ℕ) (t : Trained) : Type 0 where
+  pub best : Best
+  pub restarts : restartsTo j r ≡ completed best
+  pub rounds : roundsTo j r (trainedFrom j r best) i ≡ completed t
+
+-- the refusal n, vs of a refinement beside what the update alone comes to: the same 14 or 16; or 19, which there shows the slots still free and here all slots
+abbrev pub SameRefusal : Job → Trained → ℕ → List Value → Outcome Repaired → Type 0
+SameRefusal j t n vs o =
+    (((n ≡ 14) ⊎ (n ≡ 16)) × (o ≡ refused n vs)) ⊎ ((n ≡ 19) × (vs ≡ whole (j .slots) ∷ []) × (o ≡ refused 19 (whole (j .slots - length (t .events)) ∷ [])))
+
 -- ---- what is claimed
 -- of an accepted refinement
 pub record AcceptedRefinement (j : Job) (b : Best) : Type 0 where
@@ -106,8 +128,20 @@ pub record AcceptedRefinement (j : Job) (b : Best) : Type 0 where
   pub written : (before : List Float) → codewordsAfter j before ≡ narrowed (b .codebook)
   pub reported : reportOf j b .«best_mse» ≡ b .error
 
+-- of one refused after its checks: it came to a round that update alone refuses too, past its own checks; crate rule says what that refusal means
+pub record RefusedRefinement (j : Job) (n : ℕ) (vs : List Value) : Type 0 where
+  pub in-restart : ℕ
+  pub in-round : ℕ
+  pub standing : Trained
+  pub restart-below : in-restart < restartsOf j
+  pub round-below : in-round < iterationsOf j
+  pub reached : Reached j in-restart in-round standing
+  pub checked : updateChecks (callWith (roundRequest j in-restart in-round standing) (standing .codebook)) ≡ completed tt
+  pub refusal : SameRefusal j standing n vs (updateAlone (callWith (roundRequest j in-restart in-round standing) (standing .codebook)))
+
 -- of any
 pub record AnyRefinement (j : Job) : Type 0 where
   pub accepts : (b : Best) → refinement j ≡ completed b → AcceptedRefinement j b
   -- samples are at least as many as codewords, so "no donor" never comes
   pub donor : (vs : List Value) → refinement j ≡ refused 15 vs → ⊥
+  pub refuses : refineChecks j ≡ completed tt → (n : ℕ) (vs : List Value) → refinement j ≡ refused n vs → RefusedRefinement j n vs
