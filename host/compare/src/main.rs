@@ -4,9 +4,8 @@
 //! first difference with its inputs, and then the run ends with status 1.
 
 mod areas;
-mod profiles;
 mod proved;
-mod random;
+mod rules;
 mod run;
 
 use std::process::ExitCode;
@@ -35,7 +34,7 @@ fn main() -> ExitCode {
         }
         let mut run = run::Run::new(many, seed);
         match area(&mut run) {
-            Ok(()) => println!("{name}: {} cases equal", run.cases),
+            Ok(()) => println!("{name}: {}", run.counts()),
             Err(difference) => {
                 println!("{name}: {difference}");
                 return ExitCode::FAILURE;

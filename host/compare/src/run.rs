@@ -1,7 +1,9 @@
 //! How two answers are compared, and how a difference is shown.
 
-use crate::random::Random;
+use nuqtelya::Event;
+use oracle::inputs::Random;
 use oracle::{Answer, Value};
+use std::collections::BTreeMap;
 
 /// Completed, or the first difference.
 pub type Outcome = Result<(), String>;
@@ -10,12 +12,15 @@ pub struct Run {
     /// Whether the long runs are asked for.
     pub many: bool,
     pub random: Random,
-    pub cases: u64,
+    /// How many cases were completed (at 0) or refused by a number.
+    pub numbers: [u64; 21],
+    /// What else a case showed, and how often.
+    seen: BTreeMap<&'static str, u64>,
 }
 
 impl Run {
     pub fn new(many: bool, seed: u64) -> Self {
-        Run { many, random: Random::new(seed), cases: 0 }
+        Run { many, random: Random::new(seed), numbers: [0; 21], seen: BTreeMap::new() }
     }
 
     /// `default` rounds, or 20 times as many in a long run.
@@ -25,11 +30,40 @@ impl Run {
 
     /// One case of function `what`: both sides are the same, or this is the difference.
     pub fn same<T: Same>(&mut self, what: &str, expected: &T, proved: &T, inputs: impl FnOnce() -> String) -> Outcome {
-        self.cases += 1;
         if expected.same(proved) {
+            self.numbers[expected.number() as usize] += 1;
             return Ok(());
         }
         Err(format!("{what} differs{}\n  expected: {}\n  proved: {}", inputs(), expected.hex(), proved.hex()))
+    }
+
+    pub fn see(&mut self, what: &'static str) {
+        *self.seen.entry(what).or_default() += 1;
+    }
+
+    /// An area's end: these refusals, among others, came up, and this was seen.
+    pub fn met(&self, numbers: &[usize], seen: &[&str]) -> Outcome {
+        if let Some(number) = numbers.iter().find(|number| self.numbers[**number] == 0) {
+            return Err(format!("no case is refused by {number}"));
+        }
+        match seen.iter().find(|what| !self.seen.contains_key(*what)) {
+            Some(what) => Err(format!("no case shows: {what}")),
+            None => Ok(()),
+        }
+    }
+
+    /// How many cases were equal, how many of them were refused by which number, and what else was seen.
+    pub fn counts(&self) -> String {
+        let refused = (1..).zip(&self.numbers[1..]).filter(|(_, count)| **count > 0);
+        let refused: Vec<String> = refused.map(|(number, count)| format!("{count} by {number}")).collect();
+        let seen: Vec<String> = self.seen.iter().map(|(what, count)| format!("{what} {count}")).collect();
+        let mut text = format!("{} cases equal", self.numbers.iter().sum::<u64>());
+        for (name, parts) in [("refused", refused), ("seen", seen)] {
+            if !parts.is_empty() {
+                text.push_str(&format!("; {name}: {}", parts.join(", ")));
+            }
+        }
+        text
     }
 }
 
@@ -50,6 +84,10 @@ pub trait Same {
     fn same(&self, other: &Self) -> bool;
     /// The bits in hexadecimal.
     fn hex(&self) -> String;
+    /// Of an answer, the number of its refusal; 0 of all else.
+    fn number(&self) -> u32 {
+        0
+    }
 }
 
 macro_rules! whole {
@@ -139,6 +177,9 @@ impl<A: Same, B: Same> Same for (A, B) {
     fn hex(&self) -> String {
         format!("{}, {}", self.0.hex(), self.1.hex())
     }
+    fn number(&self) -> u32 {
+        self.0.number()
+    }
 }
 
 impl Same for Value {
@@ -157,6 +198,19 @@ impl Same for Value {
     }
 }
 
+impl Same for Event {
+    fn same(&self, other: &Self) -> bool {
+        let whole = |e: &Event| [e.restart, e.iteration, e.empty_cell, e.donor_cell, e.donor_count_before];
+        whole(self) == whole(other)
+            && self.donor_distortion.same(&other.donor_distortion)
+            && self.residual_norm.same(&other.residual_norm)
+            && self.split_epsilon.same(&other.split_epsilon)
+    }
+    fn hex(&self) -> String {
+        format!("{self:?}")
+    }
+}
+
 impl<T: Same> Same for Answer<T> {
     fn same(&self, other: &Self) -> bool {
         match (self, other) {
@@ -169,6 +223,12 @@ impl<T: Same> Same for Answer<T> {
         match self {
             Ok(value) => value.hex(),
             Err((number, values)) => format!("refused by {number} with {}", values.hex()),
+        }
+    }
+    fn number(&self) -> u32 {
+        match self {
+            Ok(_) => 0,
+            Err((number, _)) => *number,
         }
     }
 }
@@ -195,8 +255,25 @@ impl Pattern for u64 {
     const PATTERN: u64 = 0xa5a5_a5a5_a5a5_a5a5;
 }
 
+impl Pattern for f32 {
+    const PATTERN: f32 = f32::from_bits(u32::PATTERN);
+}
+
 impl Pattern for f64 {
     const PATTERN: f64 = f64::from_bits(u64::PATTERN);
+}
+
+impl Pattern for Event {
+    const PATTERN: Event = Event {
+        restart: u32::PATTERN,
+        iteration: u32::PATTERN,
+        empty_cell: u32::PATTERN,
+        donor_cell: u32::PATTERN,
+        donor_count_before: u32::PATTERN,
+        donor_distortion: f64::PATTERN,
+        residual_norm: f64::PATTERN,
+        split_epsilon: f64::PATTERN,
+    };
 }
 
 /// A buffer to lend.

@@ -25,7 +25,7 @@ pub mod probe {
     }
 
     /// A codebook with these codewords and a report that agrees with its profile.
-    pub(crate) fn codebook(codewords: &[f32], profile: &Profile) -> FibCodebookV1 {
+    pub fn codebook(codewords: &[f32], profile: &Profile) -> FibCodebookV1 {
         FibCodebookV1 {
             schema_version: CODEBOOK_SCHEMA.into(),
             profile: profile.published(),

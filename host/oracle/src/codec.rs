@@ -4,6 +4,8 @@ use crate::ext::*;
 
 include!(concat!(env!("FIB_SRC"), "codec.rs"));
 
+pub mod timed;
+
 /// Named by the published text and defined in none of its files.
 pub struct GpuStepReport {
     pub hadamard: bool,

@@ -100,10 +100,22 @@ pub mod nalgebra {
     }
 }
 
-/// The search of another crate, replaced by training's own search on widened values, as document 01 has it.
+/// The search of another crate, replaced by training's own search on widened values, as document 01 has it. Codewords are
+/// widened one at a time: the first of least distance among all is the first of those that are nearest by themselves.
 pub mod gpu_backend {
+    use crate::lloyd::nearest_index;
+
     pub fn nearest_codeword_f32(block: &[f32], codewords: &[f32], k: usize) -> usize {
-        let wide = |values: &[f32]| values.iter().map(|v| f64::from(*v)).collect::<Vec<_>>();
-        crate::lloyd::nearest_index(&wide(block), &wide(codewords), k).0
+        let block: Vec<f64> = block.iter().map(|v| f64::from(*v)).collect();
+        let mut wide = vec![0.0; k];
+        let (mut best, mut least) = (0, f64::INFINITY);
+        for (index, codeword) in codewords.chunks_exact(k).enumerate() {
+            wide.iter_mut().zip(codeword).for_each(|(wide, value)| *wide = f64::from(*value));
+            let (_, distance) = nearest_index(&block, &wide, k);
+            if distance < least {
+                (best, least) = (index, distance);
+            }
+        }
+        best
     }
 }

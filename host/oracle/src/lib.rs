@@ -15,6 +15,7 @@ pub mod bitpack;
 pub mod codebook;
 pub mod codec;
 pub mod error;
+pub mod inputs;
 pub mod lloyd;
 pub mod metrics;
 pub mod profile;

@@ -4,6 +4,8 @@ use crate::ext::*;
 
 include!(concat!(env!("FIB_SRC"), "lloyd.rs"));
 
+pub mod timed;
+
 pub mod probe {
     use super::*;
     use crate::answer::{refusal, refused, Answer, Refusal};
@@ -19,6 +21,15 @@ pub mod probe {
         pub repairs: u32,
         pub events: Vec<Event>,
     }
+
+    /// A refused update or training, and the repairs that came before the refusal.
+    #[derive(Debug, Clone)]
+    pub struct Stopped {
+        pub refusal: Refusal,
+        pub repairs: usize,
+    }
+
+    pub type Attempt<T> = std::result::Result<T, Stopped>;
 
     /// A completed training: the codewords, and a report that holds the events.
     #[derive(Debug, Clone)]
@@ -45,7 +56,7 @@ pub mod probe {
         policy_code: u8,
         restart: u32,
         iteration: u32,
-    ) -> Answer<Updated> {
+    ) -> Attempt<Updated> {
         let samples = split(samples, k);
         update(codebook, k, &samples, assignments, policy(policy_code), restart, iteration)
     }
@@ -58,19 +69,21 @@ pub mod probe {
         policy: EmptyCellPolicy,
         restart: u32,
         iteration: u32,
-    ) -> Answer<Updated> {
+    ) -> Attempt<Updated> {
         let mut codebook = old.to_vec();
         let mut repairs = 0;
         let mut events = Vec::new();
         let recorder = RepairRecorder { events: &mut events, restart, iteration };
-        super::update_centroids(&mut codebook, k, samples, assignments, policy, &mut repairs, recorder).map_err(
-            |error| match refusal(error) {
+        let done = super::update_centroids(&mut codebook, k, samples, assignments, policy, &mut repairs, recorder);
+        if let Err(error) = done {
+            let refusal = match refusal(error) {
                 // Neither error names its cell.
                 (15, _) => refused(15, &[refused_cell(old.len() / k, assignments, events.len())]),
                 (16, _) => refused(16, &[refused_donor(old, k, samples, assignments, &events)]),
                 other => other,
-            },
-        )?;
+            };
+            return Err(Stopped { refusal, repairs: events.len() });
+        }
         Ok(Updated { codebook, repairs, events })
     }
 
@@ -102,7 +115,7 @@ pub mod probe {
     }
 
     /// Training with S samples of k values and R - 1 matrices of k × k, all lent one after another.
-    pub fn refine_codebook(profile: &Profile, initial: &[f64], samples: &[f64], matrices: &[f64]) -> Answer<Refined> {
+    pub fn refine_codebook(profile: &Profile, initial: &[f64], samples: &[f64], matrices: &[f64]) -> Attempt<Refined> {
         let k = profile.block_dim as usize;
         let samples = split(samples, k);
         lend::samples(samples.clone());
@@ -119,22 +132,26 @@ pub mod probe {
                     lend::matrices(split(matrices, k * k));
                     refused_round(&published, initial, &samples)
                 }
-                other => other,
+                refusal => Stopped { refusal, repairs: 0 },
             }),
         }
     }
 
     /// The refusal of the update that ended a training, with its cell: the published rounds again, up to that one.
-    fn refused_round(profile: &FibQuantProfileV1, initial: &[f64], samples: &[Vec<f64>]) -> Refusal {
+    fn refused_round(profile: &FibQuantProfileV1, initial: &[f64], samples: &[Vec<f64>]) -> Stopped {
         let k = profile.block_dim as usize;
+        let mut repairs = 0;
         for restart in 0..profile.lloyd_restarts {
             let mut codebook = rotated_initial(profile, initial, restart).expect("a start");
             for iteration in 0..profile.lloyd_iterations {
                 let assignments = assign_samples(&codebook, k, samples);
                 let policy = profile.empty_cell_policy.clone();
                 match update(&codebook, k, samples, &assignments, policy, restart, iteration) {
-                    Ok(updated) => codebook = updated.codebook,
-                    Err(refusal) => return refusal,
+                    Ok(updated) => {
+                        codebook = updated.codebook;
+                        repairs += updated.events.len();
+                    }
+                    Err(stopped) => return Stopped { repairs: repairs + stopped.repairs, ..stopped },
                 }
             }
         }

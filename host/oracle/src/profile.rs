@@ -47,7 +47,7 @@ pub mod probe {
     }
 
     impl Profile<'_> {
-        pub(crate) fn published(&self) -> FibQuantProfileV1 {
+        pub fn published(&self) -> FibQuantProfileV1 {
             FibQuantProfileV1 {
                 schema_version: self.schema.into(),
                 ambient_dim: self.ambient_dim,

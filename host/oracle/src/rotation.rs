@@ -18,7 +18,8 @@ pub mod probe {
         lent(d, matrix)?.apply_inverse(input).map_err(refusal)
     }
 
-    fn lent(d: u64, matrix: &[f64]) -> Answer<StoredRotation> {
+    /// A rotation by this matrix.
+    pub fn lent(d: u64, matrix: &[f64]) -> Answer<StoredRotation> {
         lend::matrices(vec![matrix.to_vec()]);
         StoredRotation::new(d as usize, 0).map_err(refusal)
     }

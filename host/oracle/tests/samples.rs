@@ -1,6 +1,7 @@
 //! Document 01's samples of the work, through the probes: they show that the oracle is wired up as meant.
 
-use oracle::profile::probe::{Profile, ROTATION_ALGORITHM, SCHEMA};
+use oracle::inputs::fitting;
+use oracle::profile::probe::Profile;
 use oracle::{bitpack, codebook, codec, f16, lloyd, metrics, profile, rotation};
 use oracle::{Answer, Value};
 
@@ -14,28 +15,16 @@ fn refusal<T>(answer: Answer<T>) -> (u32, Vec<u64>) {
     (number, values.into_iter().map(whole).collect())
 }
 
+/// The same, and the repairs before it.
+fn stopped<T>(attempt: lloyd::probe::Attempt<T>) -> (u32, Vec<u64>, usize) {
+    let stopped = attempt.err().expect("a refusal");
+    let (number, values) = refusal::<T>(Err(stopped.refusal));
+    (number, values, stopped.repairs)
+}
+
 /// d = 4, k = 2 and N = 2, with S samples, R restarts and I rounds.
-fn small(samples: u32, restarts: u32, iterations: u32) -> Profile<'static> {
-    Profile {
-        schema: SCHEMA,
-        ambient_dim: 4,
-        block_dim: 2,
-        codebook_size: 2,
-        paper_rate: 0.5,
-        wire_index_bits: 1,
-        wire_rate: 0.5,
-        norm_format: 0,
-        rotation_seed: 1,
-        rotation_algorithm: ROTATION_ALGORITHM,
-        codebook_seed: 2,
-        source_mode: 0,
-        radius_method: 1,
-        direction_method: 0,
-        restarts,
-        iterations,
-        training_samples: samples,
-        empty_cell_policy: 0,
-    }
+fn small(training_samples: u32, restarts: u32, iterations: u32) -> Profile<'static> {
+    Profile { training_samples, restarts, iterations, ..fitting(4, 2, 2) }
 }
 
 #[test]
@@ -52,16 +41,16 @@ fn update() {
 
     // Residual without direction, no donor, empty cells under the policy that fails.
     let same = update(&[0.0, 10.0], 1, &[2.0, 2.0], &[0, 0], 0, 0, 0);
-    assert_eq!(refusal(same), (16, vec![0]));
+    assert_eq!(stopped(same), (16, vec![0], 0));
     let single = update(&[0.0, 10.0], 1, &[5.0], &[0], 0, 0, 0);
-    assert_eq!(refusal(single), (15, vec![1]));
+    assert_eq!(stopped(single), (15, vec![1], 0));
     let closed = update(&[0.0, 10.0, 20.0], 1, &[5.0], &[1], 1, 0, 0);
-    assert_eq!(refusal(closed), (14, vec![2]));
+    assert_eq!(stopped(closed), (14, vec![2], 0));
     // The second of two repairs: the donor is the last of largest distortion, the cell the second empty one.
     let later = update(&[0.0, 9.0, 1.0, 9.0], 1, &[0.0, 4.0, 1.0, 1.0], &[0, 0, 2, 2], 0, 0, 0);
-    assert_eq!(refusal(later), (16, vec![2]));
+    assert_eq!(stopped(later), (16, vec![2], 1));
     let later = update(&[0.0, 9.0, 9.0, 9.0], 1, &[0.0, 4.0], &[0, 0], 0, 0, 0);
-    assert_eq!(refusal(later), (15, vec![2]));
+    assert_eq!(stopped(later), (15, vec![2], 1));
 }
 
 #[test]
@@ -92,9 +81,9 @@ fn refine() {
     // All samples equal: the second cell stays empty and no direction is there.
     let equal = [1.0; 8];
     let refused = lloyd::probe::refine_codebook(&small(4, 2, 3), &[1.0, 1.0, 5.0, 5.0], &equal, &quarter_turn);
-    assert_eq!(refusal(refused), (16, vec![0]));
+    assert_eq!(stopped(refused), (16, vec![0], 0));
     let short = lloyd::probe::refine_codebook(&small(4, 1, 1), &[0.0], &samples, &[]);
-    assert_eq!(refusal(short), (7, vec![1]));
+    assert_eq!(stopped(short), (7, vec![1], 0));
 }
 
 #[test]

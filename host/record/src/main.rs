@@ -3,12 +3,10 @@
 //!     record FILE     writes the records to FILE and to standard output the lines that `replay` has to write
 
 mod file;
-mod random;
 
 use file::{File, Record, NAMES};
-use oracle::profile::probe::{Profile, ROTATION_ALGORITHM, SCHEMA};
+use oracle::inputs::{fitting, Random};
 use oracle::{bitpack, codec, lloyd, metrics, profile, rotation, Answer};
-use random::Random;
 
 /// The room of the program `replay`.
 const ROOM: usize = 131_072;
@@ -16,7 +14,7 @@ const ROOM: usize = 131_072;
 fn main() {
     let path = std::env::args().nth(1).expect("the file to write");
     let mut file = File::new();
-    let mut random = Random(754);
+    let mut random = Random::new(754);
     packing(&mut file, &mut random);
     counts(&mut file, &mut random);
     frames(&mut file, &mut random);
@@ -43,15 +41,15 @@ fn packing(file: &mut File, random: &mut Random) {
             pack(file, &indices, width);
             let good = bitpack::probe::pack_indices(&indices, bits).expect("these fit");
             unpack(file, &good, count as u64, width);
-            if count > 0 && fits && random.below(2) == 0 {
-                let place = random.below(count);
+            if count > 0 && fits && random.index(2) == 0 {
+                let place = random.index(count);
                 if width < 32 {
                     indices[place] = random.pick(&[1 << width, 1 << width | 1, u32::MAX]);
                     pack(file, &indices, width);
                 }
                 // A bit flipped, most often among the last, where the padding is.
                 let mut damaged = good.clone();
-                let bit = 8 * good.len() - 1 - random.below(8);
+                let bit = 8 * good.len() - 1 - random.index(8);
                 damaged[bit / 8] ^= 1 << (bit % 8);
                 unpack(file, &damaged, count as u64, width);
                 unpack(file, &good[..good.len() - 1], count as u64, width);
@@ -96,8 +94,8 @@ fn counts(file: &mut File, random: &mut Random) {
 
 fn frames(file: &mut File, random: &mut Random) {
     for _ in 0..60 {
-        let width = 1 + random.below(16) as u8;
-        let count = random.below(12) as u32;
+        let width = 1 + random.index(16) as u8;
+        let count = random.index(12) as u32;
         let norm_len = random.pick(&[2, 2, 2, 0, 1, 5]);
         let norm = random.bytes(norm_len);
         let indices = random.bytes(packed_len(count as usize, width));
@@ -106,10 +104,10 @@ fn frames(file: &mut File, random: &mut Random) {
 
         let good = codec::probe::to_compact_bytes(width, count, &norm, &indices);
         parse(file, &good);
-        parse(file, &good[..random.below(good.len())]);
+        parse(file, &good[..random.index(good.len())]);
         for _ in 0..3 {
             let mut damaged = good.clone();
-            let bit = random.below(8 * damaged.len().min(13));
+            let bit = random.index(8 * damaged.len().min(13));
             damaged[bit / 8] ^= 1 << (bit % 8);
             parse(file, &damaged);
         }
@@ -127,42 +125,19 @@ fn write(file: &mut File, width: u8, count: u32, norm: &[u8], indices: &[u8]) {
 
 fn parse(file: &mut File, bytes: &[u8]) {
     // The profile is tested after the frame and is a good one.
-    let answer = codec::probe::from_compact_bytes(bytes, &good_profile());
+    let answer = codec::probe::from_compact_bytes(bytes, &fitting(4, 2, 2));
     let record = Record::default().list(bytes).answer(answer, |record, frame| {
         record.byte(frame.width.into()).u32(frame.count).list(&frame.norm).list(&frame.indices)
     });
     file.add("parse_compact", &record);
 }
 
-fn good_profile() -> Profile<'static> {
-    Profile {
-        schema: SCHEMA,
-        ambient_dim: 4,
-        block_dim: 2,
-        codebook_size: 2,
-        paper_rate: 0.5,
-        wire_index_bits: 1,
-        wire_rate: 0.5,
-        norm_format: 0,
-        rotation_seed: 1,
-        rotation_algorithm: ROTATION_ALGORITHM,
-        codebook_seed: 2,
-        source_mode: 0,
-        radius_method: 1,
-        direction_method: 0,
-        restarts: 1,
-        iterations: 1,
-        training_samples: 2,
-        empty_cell_policy: 0,
-    }
-}
-
 fn errors(file: &mut File, random: &mut Random) {
     for round in 0..160 {
-        let left_len = random.below(9);
-        let right_len = if round % 4 == 0 { random.below(9) } else { left_len };
+        let left_len = random.index(9);
+        let right_len = if round % 4 == 0 { random.index(9) } else { left_len };
         let mut values = |len| -> Vec<f32> {
-            let values = if round % 3 == 0 { random.wild_values(len) } else { random.values(len) };
+            let values = if round % 3 == 0 { wild_values(random, len) } else { random.values(len) };
             values.into_iter().map(|x| x as f32).collect()
         };
         let (left, right) = (values(left_len), values(right_len));
@@ -177,9 +152,9 @@ fn errors(file: &mut File, random: &mut Random) {
 
 fn rotations(file: &mut File, random: &mut Random) {
     for round in 0..120 {
-        let d = 1 + random.below(4);
+        let d = 1 + random.index(4);
         let wild = round % 3 == 0;
-        let mut values = |len| if wild { random.wild_values(len) } else { random.values(len) };
+        let mut values = |len| if wild { wild_values(random, len) } else { random.values(len) };
         let (matrix, input) = (values(d * d), values(d));
         rotate(file, d as u64, &matrix, &input, d);
         if round % 10 == 0 {
@@ -208,7 +183,7 @@ fn rotate(file: &mut File, d: u64, matrix: &[f64], input: &[f64], out_len: usize
 
 fn searches(file: &mut File, random: &mut Random) {
     for _ in 0..100 {
-        let (n, k) = (1 + random.below(6), 1 + random.below(4));
+        let (n, k) = (1 + random.index(6), 1 + random.index(4));
         let codewords = random.values(n * k);
         let block = random.values(k);
         let (index, distance) = lloyd::probe::nearest_index(&block, &codewords, k);
@@ -216,10 +191,22 @@ fn searches(file: &mut File, random: &mut Random) {
         let record = record.answer(Ok(()), |record, ()| record.u32(index as u32).f64(distance));
         file.add("nearest_index", &record);
 
-        let count = random.below(32 / k + 1);
+        let count = random.index(32 / k + 1);
         let samples = random.values(count * k);
         let answer = lloyd::probe::mse_for_codebook(&codewords, k, &samples);
         let record = Record::default().byte(n).byte(k).list(&codewords).list(&samples);
         file.add("mse_for_codebook", &record.answer(answer, Record::f64));
     }
+}
+
+/// As `Random::values`, and now and then zeros, infinities, the largest and the smallest numbers; no NaN.
+fn wild_values(random: &mut Random, len: usize) -> Vec<f64> {
+    let special = [0.0, -0.0, f64::INFINITY, f64::NEG_INFINITY, f64::MAX, f64::MIN_POSITIVE, 5e-324, f32::MAX.into()];
+    let mut values = random.values(len);
+    for value in &mut values {
+        if random.one_in(4) {
+            *value = random.pick(&special);
+        }
+    }
+    values
 }

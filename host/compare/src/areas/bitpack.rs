@@ -1,7 +1,7 @@
 //! Packing and unpacking of indices.
 
 use crate::inputs;
-use crate::proved;
+use crate::proved::proved;
 use crate::run::{lent, refused, with_buffer, Outcome, Run};
 use oracle::bitpack::probe;
 
@@ -145,7 +145,7 @@ fn pack(run: &mut Run, indices: &[u32], width: u8, len: usize) -> Outcome {
         expected = refused(7, &[6]);
     }
     let mut out = lent(len);
-    let answer = proved::pack_indices(indices, width, &mut out);
+    let answer = proved(nuqtelya::pack_indices(indices, width, &mut out));
     run.same("pack", &with_buffer(expected, len), &(answer, out), inputs!(indices, width, len))
 }
 
@@ -156,6 +156,6 @@ fn unpack(run: &mut Run, bytes: &[u8], count: u64, width: u8, len: usize) -> Out
         expected = refused(7, &[6]);
     }
     let mut out = lent(len);
-    let answer = proved::unpack_indices(bytes, count, width, &mut out);
+    let answer = proved(nuqtelya::unpack_indices(bytes, count, width, &mut out));
     run.same("unpack", &with_buffer(expected, len), &(answer, out), inputs!(bytes, count, width, len))
 }

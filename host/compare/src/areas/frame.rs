@@ -1,10 +1,10 @@
 //! Compact frames, written and parsed.
 
 use crate::inputs;
-use crate::profiles::fitting;
-use crate::proved;
+use crate::proved::{self, proved};
 use crate::run::{lent, refused, with_buffer, Outcome, Run, Same};
 use oracle::codec::probe::{self, Frame};
+use oracle::inputs::fitting;
 
 pub fn run(run: &mut Run) -> Outcome {
     for _ in 0..run.rounds(300) {
@@ -116,7 +116,7 @@ fn write(run: &mut Run, width: u8, count: u32, norm: &[u8], indices: &[u8]) -> O
             Ok(probe::to_compact_bytes(width, count, norm, indices))
         };
         let mut out = lent(len);
-        let answer = proved::write_frame(width, count, norm, indices, &mut out);
+        let answer = proved(nuqtelya::write_frame(&nuqtelya::Frame { width, count, norm, indices }, &mut out));
         let shown = inputs!(width, count, norm, indices, len);
         run.same("write_frame", &with_buffer(expected, len), &(answer, out), shown)?;
     }

@@ -1,7 +1,7 @@
 //! The mean squared error of two vectors.
 
 use crate::inputs;
-use crate::proved;
+use crate::proved::proved;
 use crate::run::{Outcome, Run};
 use oracle::metrics::probe;
 
@@ -41,5 +41,5 @@ fn case(run: &mut Run, left_len: usize, right_len: usize) -> Outcome {
     };
     let (left, right) = (values(left_len), values(right_len));
     let expected = probe::mse(&left, &right);
-    run.same("mse", &expected, &proved::mse(&left, &right), inputs!(left, right))
+    run.same("mse", &expected, &proved(nuqtelya::mse(&left, &right)), inputs!(left, right))
 }

@@ -1,7 +1,7 @@
 //! Narrowing against the processor (binary64 to binary32) and the oracle's binary16, and widening from binary16.
 
 use crate::inputs;
-use crate::proved;
+use crate::proved::proved;
 use crate::run::{Outcome, Run};
 use oracle::f16;
 use std::ops::RangeInclusive;
@@ -16,7 +16,7 @@ pub fn run(run: &mut Run) -> Outcome {
 fn widened(run: &mut Run) -> Outcome {
     for bits in 0..=u16::MAX {
         let expected = Ok(f16(bits).to_f32());
-        run.same("f16 to f32", &expected, &proved::f16_to_f32(bits), inputs!(bits))?;
+        run.same("f16 to f32", &expected, &proved(nuqtelya::f16_to_f32(bits)), inputs!(bits))?;
     }
     Ok(())
 }
@@ -56,7 +56,7 @@ fn half(run: &mut Run, x: f32) -> Outcome {
     // Any NaN will do for a NaN.
     let plain = |bits: u16| if bits & 0x7fff > 0x7c00 { 0x7e00 } else { bits };
     let expected = Ok(plain(f16::from_f32(x).0));
-    run.same("f32 to f16", &expected, &proved::f32_to_f16(x).map(plain), inputs!(x))
+    run.same("f32 to f16", &expected, &proved(nuqtelya::f32_to_f16(x)).map(plain), inputs!(x))
 }
 
 /// Exponents, biased, of binary32's values, subnormal ones and a little beyond included.
@@ -98,7 +98,7 @@ fn to_binary32(run: &mut Run) -> Outcome {
 }
 
 fn single(run: &mut Run, x: f64) -> Outcome {
-    run.same("f64 to f32", &Ok(x as f32), &proved::f64_to_f32(x), inputs!(x))
+    run.same("f64 to f32", &Ok(x as f32), &proved(nuqtelya::f64_to_f32(x)), inputs!(x))
 }
 
 /// Each power of two, and the sums and differences of two, below 2^52.

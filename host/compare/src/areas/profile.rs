@@ -1,9 +1,9 @@
 //! The profile's checks, its default, and the numbers worked out from it.
 
 use crate::inputs;
-use crate::profiles::fitting;
-use crate::proved;
-use crate::run::{refused, Outcome, Run};
+use crate::proved::{self, proved};
+use crate::run::{refused, Outcome, Run, Same};
+use oracle::inputs::fitting;
 use oracle::profile::probe::{self, Profile, ROTATION_ALGORITHM, SCHEMA};
 use oracle::{Answer, Value};
 
@@ -38,16 +38,16 @@ fn numbers(run: &mut Run) -> Outcome {
     let centers = [8, 10_000_000 / 30, u64::MAX / 30, u64::MAX];
     let powers = (0..64).map(|i| 1u64 << i);
     for n in (0..5_000).chain(powers.chain(centers).flat_map(around)) {
-        run.same("wire_index_bits", &probe::wire_index_bits(n), &proved::wire_index_bits(n), inputs!(n))?;
+        run.same("wire_index_bits", &probe::wire_index_bits(n), &proved(nuqtelya::wire_index_bits(n)), inputs!(n))?;
         let expected = probe::default_training_samples(n);
-        let proved = proved::default_training_samples(n);
+        let proved = proved(nuqtelya::default_training_samples(n));
         run.same("default_training_samples", &expected, &proved, inputs!(n))?;
     }
     for d in DIMS {
         for k in BLOCKS {
             // With k = 0 the published function panics.
             let expected = if k == 0 { refused(2, &[d.into(), 0]) } else { Ok(probe::block_count(&fitting(d, k, 2))) };
-            run.same("block_count", &expected, &proved::block_count(d, k), inputs!(d, k))?;
+            run.same("block_count", &expected, &proved(nuqtelya::block_count(d, k)), inputs!(d, k))?;
         }
     }
     Ok(())
@@ -229,7 +229,12 @@ fn unknown_codes(run: &mut Run) -> Outcome {
 
 /// A profile with such a code, and the published one that has the same answer.
 fn code_case(run: &mut Run, given: &Profile, published: &Profile, log2: f64) -> Outcome {
-    run.same("validate", &expected(published, log2), &proved::validate_profile(given, log2), inputs!(given, log2))
+    run.same(
+        "validate",
+        &validity(published, log2),
+        &proved(proved::profile(given, log2).validate()),
+        inputs!(given, log2),
+    )
 }
 
 /// Any shape with a few changes.
@@ -256,13 +261,14 @@ fn random(run: &mut Run) -> Outcome {
 }
 
 fn validate(run: &mut Run, profile: &Profile, log2: f64) -> Outcome {
-    let expected = expected(profile, log2);
-    run.same("validate", &expected, &proved::validate_profile(profile, log2), inputs!(profile, log2))
+    let expected = validity(profile, log2);
+    run.same("validate", &expected, &proved(proved::profile(profile, log2).validate()), inputs!(profile, log2))
 }
 
 /// The published answer where log2 is the library's own. With another, field 6 is tested against it here, and the fields
 /// after it by the published check of a profile whose paper rate is right.
-fn expected(profile: &Profile, log2: f64) -> Answer<()> {
+pub fn validity(profile: &Profile, log2: f64) -> Answer<()> {
+    let profile = &Profile { empty_cell_policy: 0, ..*profile };
     let answer = probe::validate(profile);
     let own = oracle::log2(profile.codebook_size.into());
     if own.to_bits() == log2.to_bits() || comes_before_rates(&answer) {
@@ -274,6 +280,13 @@ fn expected(profile: &Profile, log2: f64) -> Answer<()> {
         return Err((6, vec![Value::Whole(6), Value::Real(given), Value::Real(rate)]));
     }
     probe::validate(&Profile { paper_rate: own / k, ..*profile })
+}
+
+/// A profile that fits, as the Rust has to be given it: with the rate of its own log2, and the policy that a code stands
+/// for. One that names none is the policy that repairs nothing.
+pub fn published<'a>(profile: &Profile<'a>) -> Profile<'a> {
+    let paper_rate = oracle::log2(profile.codebook_size.into()) / f64::from(profile.block_dim);
+    Profile { paper_rate, empty_cell_policy: profile.empty_cell_policy.min(1), ..*profile }
 }
 
 /// Whether an answer is a refusal of the shape or of fields 1 to 5.
@@ -297,4 +310,37 @@ fn default(run: &mut Run, d: u64, k: u64, n: u64, log2: f64, seed: u64) -> Outco
     }
     let proved = proved::paper_default(d, k, n, log2, seed);
     run.same("paper_default", &expected, &proved, inputs!(d, k, n, log2, seed))
+}
+
+impl Same for Profile<'_> {
+    fn same(&self, other: &Self) -> bool {
+        self.schema == other.schema
+            && self.rotation_algorithm == other.rotation_algorithm
+            && whole_fields(self) == whole_fields(other)
+            && self.paper_rate.same(&other.paper_rate)
+            && self.wire_rate.same(&other.wire_rate)
+    }
+    fn hex(&self) -> String {
+        format!("{self:?}, rates {} and {}", self.paper_rate.hex(), self.wire_rate.hex())
+    }
+}
+
+/// The fields that are whole numbers.
+fn whole_fields(p: &Profile) -> [u64; 14] {
+    [
+        p.ambient_dim.into(),
+        p.block_dim.into(),
+        p.codebook_size.into(),
+        p.wire_index_bits.into(),
+        p.norm_format.into(),
+        p.rotation_seed,
+        p.codebook_seed,
+        p.source_mode.into(),
+        p.radius_method.into(),
+        p.direction_method.into(),
+        p.restarts.into(),
+        p.iterations.into(),
+        p.training_samples.into(),
+        p.empty_cell_policy.into(),
+    ]
 }

@@ -1,7 +1,7 @@
 //! The square root against the processor.
 
 use crate::inputs;
-use crate::proved;
+use crate::proved::proved;
 use crate::run::{Outcome, Run};
 
 pub fn run(run: &mut Run) -> Outcome {
@@ -44,5 +44,5 @@ fn around(run: &mut Run, x: f64) -> Outcome {
 }
 
 fn root(run: &mut Run, x: f64) -> Outcome {
-    run.same("sqrt", &Ok(x.sqrt()), &proved::sqrt(x), inputs!(x))
+    run.same("sqrt", &Ok(x.sqrt()), &proved(nuqtelya::sqrt(x)), inputs!(x))
 }

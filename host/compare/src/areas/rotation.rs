@@ -1,7 +1,7 @@
 //! Rotation by a lent matrix and back.
 
 use crate::inputs;
-use crate::proved;
+use crate::proved::proved;
 use crate::run::{lent, refused, with_buffer, Outcome, Run};
 use oracle::rotation::probe;
 use oracle::Answer;
@@ -58,16 +58,16 @@ fn random(run: &mut Run, d: u64) -> Outcome {
 
 fn both(run: &mut Run, d: u64, matrix: &[f64], input: &[f64], out_len: usize) -> Outcome {
     let mut out = lent(out_len);
-    let answer = proved::apply(d, matrix, input, &mut out);
+    let answer = proved(nuqtelya::apply(d, matrix, input, &mut out));
     let expected = expected(d, matrix, input, out_len, probe::apply);
     // The sign of a zero is not compared here: releases of Rust differ in where a sum starts.
     let (expected, held) = with_buffer(expected, out_len);
     let expected = (expected, unsigned_zeros(held));
-    let proved = (answer, unsigned_zeros(out));
-    run.same("apply", &expected, &proved, inputs!(d, matrix, input, out_len))?;
+    let found = (answer, unsigned_zeros(out));
+    run.same("apply", &expected, &found, inputs!(d, matrix, input, out_len))?;
 
     let mut out = lent(out_len);
-    let answer = proved::apply_inverse(d, matrix, input, &mut out);
+    let answer = proved(nuqtelya::apply_inverse(d, matrix, input, &mut out));
     let expected = self::expected(d, matrix, input, out_len, probe::apply_inverse);
     let expected = with_buffer(expected, out_len);
     run.same("apply_inverse", &expected, &(answer, out), inputs!(d, matrix, input, out_len))

@@ -1,4 +1,8 @@
-//! A small deterministic generator (splitmix64) and the values that the areas draw from it.
+//! Inputs for the runs: a small deterministic generator (splitmix64) with the values drawn from it, and profiles that fit.
+//!
+//! The recorded answers (`record`) hang on what the generator draws, and in which order.
+
+use crate::profile::probe::{wire_index_bits, Profile, ROTATION_ALGORITHM, SCHEMA};
 
 pub struct Random(u64);
 
@@ -20,8 +24,13 @@ impl Random {
         self.bits() % bound
     }
 
+    /// The same for lengths and places.
+    pub fn index(&mut self, bound: usize) -> usize {
+        self.below(bound as u64) as usize
+    }
+
     pub fn pick<T: Copy>(&mut self, from: &[T]) -> T {
-        from[self.below(from.len() as u64) as usize]
+        from[self.index(from.len())]
     }
 
     /// One time in `n`.
@@ -59,6 +68,12 @@ impl Random {
         let exponent = 1023 - 16 + self.below(32);
         f64::from_bits(sign | exponent << 52 | self.bits() >> 12)
     }
+
+    /// Small whole numbers, on which ties are common, or numbers of either sign from 2^-16 to 2^16.
+    pub fn values(&mut self, len: usize) -> Vec<f64> {
+        let whole = self.one_in(3);
+        (0..len).map(|_| if whole { self.below(9) as f64 - 4.0 } else { self.near_one() }).collect()
+    }
 }
 
 const SPECIAL: [f64; 14] = [
@@ -77,3 +92,33 @@ const SPECIAL: [f64; 14] = [
     1.401298464324817e-45,
     65504.0,
 ];
+
+/// A profile of this shape whose other fields fit it, as far as the shape allows.
+pub fn fitting(d: u32, k: u32, n: u32) -> Profile<'static> {
+    let bits = wire_index_bits(n.into()).unwrap_or(0);
+    let (radius_method, direction_method) = match k {
+        2 => (1, 0),
+        3 => (0, 1),
+        _ => (0, 2),
+    };
+    Profile {
+        schema: SCHEMA,
+        ambient_dim: d,
+        block_dim: k,
+        codebook_size: n,
+        paper_rate: crate::log2(n.into()) / f64::from(k),
+        wire_index_bits: bits,
+        wire_rate: f64::from(bits) / f64::from(k),
+        norm_format: 0,
+        rotation_seed: 7,
+        rotation_algorithm: ROTATION_ALGORITHM,
+        codebook_seed: 11,
+        source_mode: 0,
+        radius_method,
+        direction_method,
+        restarts: 4,
+        iterations: 25,
+        training_samples: n.max(256),
+        empty_cell_policy: 0,
+    }
+}

@@ -1,0 +1,97 @@
+//! Nearest, mean error, update and whole refinements.
+
+use crate::data::{Shape, Training};
+use crate::measure::{prepared, side, Side};
+use crate::Bench;
+use nuqtelya::{Event, UpdateTerms, SPLIT_HIGHEST_DISTORTION};
+use oracle::lloyd::{probe, timed};
+use std::time::Duration;
+
+pub fn rows(bench: &mut Bench, shape: &Shape) {
+    let data = Training::new(shape, &mut bench.random);
+    let name = format!("k {}, N {}, S {}", shape.k, shape.n, shape.s);
+    let (proved, rust) = nearest(shape, &data);
+    bench.row("nearest", &format!("k {}, N {}", shape.k, shape.n), proved, rust);
+    let (proved, rust) = update(shape, &data);
+    bench.row("update", &name, proved, rust);
+    // Rounds are all alike; at the largest shape one of them is long enough.
+    let iterations = if shape.n > 1000 { 1 } else { 5 };
+    let (proved, rust) = refine(shape, &data, iterations);
+    bench.row("refine", &format!("{name}, R 1, I {iterations}"), proved, rust);
+}
+
+fn nearest<'a>(shape: &'a Shape, data: &'a Training) -> (Side<'a>, Side<'a>) {
+    let blocks = || data.samples.chunks_exact(shape.k).cycle();
+    let (mut ours, mut theirs) = (blocks(), blocks());
+    let (n, k) = (shape.n as u64, shape.k as u64);
+    for block in data.samples.chunks_exact(shape.k).take(20) {
+        let found = nuqtelya::nearest(&data.initial, n, k, block).expect("a codeword");
+        assert_eq!((found.index.into(), found.distance), probe::nearest_index(block, &data.initial, shape.k));
+    }
+    (
+        side(move || nuqtelya::nearest(&data.initial, n, k, ours.next().expect("a block"))),
+        side(move || probe::nearest_index(theirs.next().expect("a block"), &data.initial, shape.k)),
+    )
+}
+
+fn update<'a>(shape: &'a Shape, data: &'a Training) -> (Side<'a>, Side<'a>) {
+    let terms = UpdateTerms {
+        codebook_size: shape.n as u64,
+        block_dim: shape.k as u64,
+        policy: SPLIT_HIGHEST_DISTORTION,
+        restart: 0,
+        iteration: 0,
+    };
+    let mut work = vec![0.0; 2 * shape.n * shape.k + 2 * shape.n];
+    let mut counts = vec![0; shape.n];
+    let mut events = vec![Event::default(); 16];
+    let mut ours = move |codebook: &mut [f64]| {
+        nuqtelya::update(terms, codebook, &data.samples, &data.assignments, &mut work, &mut counts, &mut events)
+    };
+    let samples = timed::Samples::new(&data.samples, shape.k);
+    let assignments: Vec<usize> = data.assignments.iter().map(|cell| *cell as usize).collect();
+    let theirs = move |codebook: &mut [f64]| timed::update(codebook, shape.k, &samples, &assignments);
+    let (mut left, mut right) = (data.initial.clone(), data.initial.clone());
+    assert_eq!(ours(&mut left), Ok(theirs(&mut right)));
+    assert_eq!(left, right);
+    (
+        prepared(|| data.initial.clone(), move |mut codebook| ours(&mut codebook)),
+        prepared(|| data.initial.clone(), move |mut codebook| theirs(&mut codebook)),
+    )
+}
+
+/// One restart of so many rounds; both sides reach the same error.
+pub fn refine<'a>(shape: &'a Shape, data: &'a Training, iterations: u32) -> (Side<'a>, Side<'a>) {
+    let (profile, published) = shape.profiles(1, iterations);
+    let mut codewords = vec![0.0; shape.n * shape.k];
+    let mut work = vec![0.0; 4 * shape.n * shape.k + 2 * shape.n];
+    let mut counts = vec![0; shape.n + shape.s];
+    let mut events = vec![Event::default(); shape.n];
+    let samples = timed::Samples::new(&data.samples, shape.k);
+    let reached = std::rc::Rc::new(std::cell::Cell::new(None));
+    let theirs = reached.clone();
+    (
+        side(move || {
+            let report = nuqtelya::refine(
+                &profile,
+                &data.initial,
+                &data.samples,
+                &[],
+                &mut codewords,
+                &mut work,
+                &mut counts,
+                &mut events,
+            );
+            reached.set(Some(report.expect("a training").best_mse));
+        }),
+        Box::new(move |calls| {
+            let mut time = Duration::ZERO;
+            for _ in 0..calls {
+                let (taken, error) = timed::refine(&published, &data.initial, &samples, &[]);
+                assert_eq!(theirs.get(), Some(error));
+                time += taken;
+            }
+            time
+        }),
+    )
+}

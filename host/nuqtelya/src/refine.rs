@@ -1,0 +1,169 @@
+//! Training: Lloyd's rounds over several restarts, and the report of a training.
+
+use crate::call::{call, call_checked, fits, profile_export, with_profile};
+use crate::update::{Event, MAX_EVENT_SLOTS};
+use crate::{Profile, Refusal};
+
+// init_mse and best_mse in `real`, the other members of the report in `report`; a refusal leaves them as they were.
+profile_export!(fib_refine(;
+    initial: *const f64,
+    initial_len: usize,
+    samples: *const f64,
+    samples_len: usize,
+    matrices: *const f64,
+    matrices_len: usize,
+    codewords: *mut f32,
+    codewords_len: usize,
+    work: *mut f64,
+    work_len: usize,
+    counts: *mut u32,
+    counts_len: usize,
+    events: *mut Event,
+    events_len: usize,
+    report: &mut [u64; 7]
+));
+
+profile_export!(fib_validate_report(
+    report_schema: *const u8,
+    report_schema_len: usize,
+    restarts_reported: u32,
+    iterations_reported: u32,
+    training_samples_reported: u32,
+    init_mse: f64,
+    best_mse: f64,
+    best_restart: u32,
+    empty_cells_repaired: u32,
+    events_used: u32,
+    seed: u64;
+));
+
+/// The schema that a report must name.
+pub const REPORT_SCHEMA: &[u8] = b"lloyd_report_v1";
+
+/// What a training found.
+#[derive(Debug, Clone, Copy, PartialEq)]
+pub struct Report {
+    pub restarts: u32,
+    pub iterations: u32,
+    pub training_samples: u32,
+    /// The mean error of the initial codebook.
+    pub init_mse: f64,
+    /// The least mean error, before the codewords were narrowed.
+    pub best_mse: f64,
+    /// The restart whose end is returned; 0 also where nothing beat the start.
+    pub best_restart: u32,
+    pub empty_cells_repaired: u32,
+    pub events_used: u32,
+    pub seed: u64,
+}
+
+impl Report {
+    /// Whether a report of this schema fits the profile's settings and is sound in itself.
+    pub fn validate(&self, schema: &[u8], profile: &Profile) -> Result<(), Refusal> {
+        call_checked(|whole, real| unsafe {
+            with_profile!(fib_validate_report(
+                schema.as_ptr(),
+                schema.len(),
+                self.restarts,
+                self.iterations,
+                self.training_samples,
+                self.init_mse,
+                self.best_mse,
+                self.best_restart,
+                self.empty_cells_repaired,
+                self.events_used,
+                self.seed;
+                profile;
+                whole,
+                real
+            ))
+        })
+    }
+}
+
+/// Trains N codewords of k values on S samples, from an initial codebook and R - 1 matrices of k × k values.
+///
+/// Work is 4×N×k + 2×N floats and N + S counts, which end as zeros; there may be 2^20 event slots at most, and the
+/// report says how many of them hold an event.
+#[allow(clippy::too_many_arguments)]
+pub fn refine(
+    profile: &Profile,
+    initial: &[f64],
+    samples: &[f64],
+    matrices: &[f64],
+    codewords: &mut [f32],
+    work: &mut [f64],
+    counts: &mut [u32],
+    events: &mut [Event],
+) -> Result<Report, Refusal> {
+    let mut report = [u64::MAX; 7];
+    let answer = call((0, 2), |whole, real| unsafe {
+        with_profile!(fib_refine(;
+            profile;
+            initial.as_ptr(),
+            initial.len(),
+            samples.as_ptr(),
+            samples.len(),
+            matrices.as_ptr(),
+            matrices.len(),
+            codewords.as_mut_ptr(),
+            codewords.len(),
+            work.as_mut_ptr(),
+            work.len(),
+            counts.as_mut_ptr(),
+            counts.len(),
+            events.as_mut_ptr(),
+            events.len(),
+            &mut report,
+            whole,
+            real
+        ))
+    });
+    if answer.is_err() && report != [u64::MAX; 7] {
+        return Err(Refusal::FOREIGN);
+    }
+    let (_, [init_mse, best_mse]) = answer?;
+    Ok(Report {
+        restarts: fits(report[0])?,
+        iterations: fits(report[1])?,
+        training_samples: fits(report[2])?,
+        init_mse,
+        best_mse,
+        best_restart: fits(report[3])?,
+        empty_cells_repaired: fits(report[4])?,
+        events_used: fits(report[5])?,
+        seed: report[6],
+    })
+}
+
+/// A completed training.
+#[derive(Debug, Clone, PartialEq)]
+pub struct Trained {
+    /// N codewords of k values.
+    pub codewords: Vec<f32>,
+    pub report: Report,
+    /// The repairs, in order.
+    pub events: Vec<Event>,
+}
+
+/// [`refine`] with buffers of its own; `event_slots` is the number of repairs at which the training is refused (19).
+pub fn train(
+    profile: &Profile,
+    initial: &[f64],
+    samples: &[f64],
+    matrices: &[f64],
+    event_slots: usize,
+) -> Result<Trained, Refusal> {
+    // Only a profile that fits bounds the lengths below.
+    profile.validate()?;
+    let n = profile.codebook_size as usize;
+    let values = n * profile.block_dim as usize;
+    let mut codewords = vec![0.0; values];
+    let mut work = vec![0.0; 4 * values + 2 * n];
+    let mut counts = vec![0; n + profile.training_samples as usize];
+    // More slots than can be lent are refused all the same.
+    let mut events = vec![Event::default(); event_slots.min(MAX_EVENT_SLOTS + 1)];
+    let report = refine(profile, initial, samples, matrices, &mut codewords, &mut work, &mut counts, &mut events)?;
+    events.truncate(report.events_used as usize);
+    Ok(Trained { codewords, report, events })
+}
