@@ -1,8 +1,20 @@
-//! Records answers of the published Rust: crates/replay/stdin, and the counts, crates/replay/stdout.
+//! Records answers of the published Rust: for the program `replay` crates/replay/stdin, and the counts,
+//! crates/replay/stdout; and for the host's library, training and codes, host/nuqtelya/tests/recorded.bin.
 //!
-//!     record FILE     writes the records to FILE and to standard output the lines that `replay` has to write
+//!     record FILE [HOST_FILE]
+//!
+//! writes the records for `replay` to FILE, to standard output the lines that it has to write, and the library's to
+//! HOST_FILE. All three are made anew, from the folder `host`, by
+//!
+//!     FIB_SRC=.. cargo run --release --offline -p record -- \
+//!         ../crates/replay/stdin nuqtelya/tests/recorded.bin > ../crates/replay/stdout
 
+mod answers;
+mod codes;
 mod file;
+#[path = "../../nuqtelya/tests/recorded/form.rs"]
+mod form;
+mod training;
 
 use file::{File, Record, NAMES};
 use oracle::inputs::{fitting, Random};
@@ -10,9 +22,12 @@ use oracle::{bitpack, codec, lloyd, metrics, profile, rotation, Answer};
 
 /// The room of the program `replay`.
 const ROOM: usize = 131_072;
+/// What the host's file may take in the repository.
+const HOST_ROOM: usize = 160_000;
 
 fn main() {
-    let path = std::env::args().nth(1).expect("the file to write");
+    let mut paths = std::env::args().skip(1);
+    let path = paths.next().expect("the file to write");
     let mut file = File::new();
     let mut random = Random::new(754);
     packing(&mut file, &mut random);
@@ -26,6 +41,23 @@ fn main() {
     for (name, count) in NAMES.iter().zip(file.counts) {
         println!("{name}: {count} equal, 0 different");
     }
+    if let Some(path) = paths.next() {
+        std::fs::write(path, host_file()).expect("the host's file written");
+    }
+}
+
+/// The host's file, which is read again as its test reads it.
+fn host_file() -> Vec<u8> {
+    let mut random = Random::new(1982);
+    let bytes = form::File {
+        updates: training::updates(&mut random),
+        trainings: training::trainings(&mut random),
+        codings: codes::codings(&mut random),
+    }
+    .bytes();
+    form::File::read(&bytes).expect("the file's form").check();
+    assert!(bytes.len() < HOST_ROOM, "{} bytes", bytes.len());
+    bytes
 }
 
 fn packed_len(count: usize, width: u8) -> usize {
