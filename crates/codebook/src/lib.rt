@@ -1,6 +1,7 @@
 // The codewords of codebook.rs: one of them, widened, and the checks of their number and of their values.
 ghost use mathlib.Core.Path.{_≡_};
-ghost use Prim.Native.Nat.{_+_, _≤_};
+ghost use Prim.Native.Nat.{ℕ, _+_, _≤_, _<_};
+ghost use mathlib.Core.Bool.{true};
 ghost use lib.ListN.{length, getD};
 ghost use lib.Ieee.{nan};
 ghost use lib.Ieee.Scale.{finite};
@@ -23,11 +24,41 @@ fn is_finite(x: f32) -> bool
     if -infinity < x { x < infinity } else { false }
 }
 
-// Public only for the crates above: the first value that is not finite.
+// Whether eight values from `at` on are all finite. No test waits for another, so that the processor makes several at once.
+fn eight_finite(s: &[f32], at: usize) -> bool
+    requires { ⌜ at + 8 ≤ length (now s) ⌝ }
+    ensures { λ r. ⌜ (r ≡ true → (j : ℕ) → j < 8 → finite (getD (now (s .entry)) (at + j) nan) ≡ true) ⌝ }
+{
+    is_finite(s[at])
+        & is_finite(s[at + 1])
+        & is_finite(s[at + 2])
+        & is_finite(s[at + 3])
+        & is_finite(s[at + 4])
+        & is_finite(s[at + 5])
+        & is_finite(s[at + 6])
+        & is_finite(s[at + 7])
+}
+
+// How many values, counted in eights, come before the first eight that are not all finite.
+fn eights_finite(s: &[f32]) -> usize
+    ensures { λ r. ⌜ r ≤ length (now (s .entry)) ⌝ }
+    ensures { λ r. ⌜ ((j : ℕ) → j < r → finite (getD (now (s .entry)) j nan) ≡ true) ⌝ }
+{
+    let mut i = 0usize;
+    while i + 8 <= s.len() {
+        if !eight_finite(s, i) {
+            return i;
+        }
+        i += 8usize;
+    }
+    i
+}
+
+// Public only for the crates above: the first value that is not finite. Eight at a time while all are, then one at a time.
 pub fn first_not_finite(s: &[f32]) -> First
     ensures { λ r. ⌜ r ≡ firstNotFinite (now (s .entry)) ⌝ }
 {
-    let mut i = 0usize;
+    let mut i = eights_finite(s);
     while i < s.len() {
         let x = s[i];
         if !is_finite(x) {

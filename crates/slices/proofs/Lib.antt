@@ -1,3 +1,5 @@
 pub mod TabulateLaw
 pub mod ListLaw
 pub mod FirstLaw
+mod SizeLaw
+pub mod EightLaw

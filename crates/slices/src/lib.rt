@@ -1,6 +1,9 @@
 // Small loops over lent slices that every layer above shares: filling with zeros, and the check of magnitude.
 ghost use mathlib.Core.Path.{_≡_};
-ghost use lib.ListN.{length, replicate};
+ghost use Prim.Native.Nat.{ℕ, _+_, _≤_, _<_};
+ghost use mathlib.Core.Bool.{true};
+ghost use lib.ListN.{length, getD, replicate};
+ghost use lib.Ieee.{nan};
 ghost use Rattle.ieee.specs.Sum.{plusZero};
 ghost use Rattle.slices.specs.Limit.{within, firstOutside};
 
@@ -36,14 +39,45 @@ pub fn zero_u32(s: &mut [u32])
 pub fn is_within(limit: f64, x: f64) -> bool
     ensures { λ r. ⌜ r ≡ within limit x ⌝ }
 {
-    if -limit <= x { x <= limit } else { false }
+    let size = if -x < x { x } else { -x };
+    size <= limit
 }
 
-// The first value that is not finite, or larger than the limit in size.
+// Whether eight values from `at` on are all within. No test waits for another, so that the processor makes several at once.
+fn eight_within(s: &[f64], at: usize, limit: f64) -> bool
+    requires { ⌜ at + 8 ≤ length (now s) ⌝ }
+    ensures { λ r. ⌜ (r ≡ true → (j : ℕ) → j < 8 → within limit (getD (now (s .entry)) (at + j) nan) ≡ true) ⌝ }
+{
+    is_within(limit, s[at])
+        & is_within(limit, s[at + 1])
+        & is_within(limit, s[at + 2])
+        & is_within(limit, s[at + 3])
+        & is_within(limit, s[at + 4])
+        & is_within(limit, s[at + 5])
+        & is_within(limit, s[at + 6])
+        & is_within(limit, s[at + 7])
+}
+
+// How many values, counted in eights, come before the first eight that are not all within.
+fn eights_within(s: &[f64], limit: f64) -> usize
+    ensures { λ r. ⌜ r ≤ length (now (s .entry)) ⌝ }
+    ensures { λ r. ⌜ ((j : ℕ) → j < r → within limit (getD (now (s .entry)) j nan) ≡ true) ⌝ }
+{
+    let mut i = 0usize;
+    while i + 8 <= s.len() {
+        if !eight_within(s, i, limit) {
+            return i;
+        }
+        i += 8usize;
+    }
+    i
+}
+
+// The first value that is not finite, or larger than the limit in size: eight at a time while all are within, then one at a time.
 pub fn first_outside(s: &[f64], limit: f64) -> First
     ensures { λ r. ⌜ r ≡ firstOutside limit (now (s .entry)) ⌝ }
 {
-    let mut i = 0usize;
+    let mut i = eights_within(s, limit);
     while i < s.len() {
         let x = s[i];
         if !is_within(limit, x) {

@@ -22,8 +22,11 @@ Inv-loop s i₀ i = (i ≤ length s) × ((j : ℕ) → j < i → notFinite s j �
 abbrev μ-loop : tie.MeasureT-loop
 μ-loop s i₀ i = length s - i
 
+eights-finite-requires : tie.Need-eights-finite-requires Inv-loop μ-loop
+eights-finite-requires c κs = search needs
+
 loop-holds : tie.Need-loop-holds Inv-loop μ-loop
-loop-holds c = (search needs, λ j h. absurd (omega arith))
+loop-holds c = (c .eights-finite .ensures .0, λ j h. ap not (c .eights-finite .ensures .1 j h))
 
 mul-x : tie.Need-mul-x Inv-loop μ-loop
 mul-x c = search needs
@@ -37,7 +40,7 @@ is-finite-requires c κs = search needs
 returns : tie.Need-returns Inv-loop μ-loop
 returns c =
     let l = c .before .before .before .before in
-    let xs = l .before .before .args .s .now in
+    let xs = l .before .before .before .args .s .now in
     sym (at-first (notFinite xs) (length xs) (l .loop .i) (omega arith) (l .loop .inv .1) (ap not (sym (c .before .is-finite .ensures)) ∙ c .if1 .taken))
 
 add-i : tie.Need-add-i Inv-loop μ-loop
@@ -51,9 +54,9 @@ loop-again c = (search needs, below-more _ _ (c .before .before .before .before 
 
 returns-2 : tie.Need-returns-2 Inv-loop μ-loop
 returns-2 c =
-    let xs = c .before .before .before .args .s .now in
+    let xs = c .before .before .before .before .args .s .now in
     let e : c .before .loop .i ≡ length xs = omega arith in
     sym (nowhere (notFinite xs) (length xs) (λ j h. c .before .loop .inv .1 j (omega arith)))
 
 pub first-not-finite-spec : {M : Type 1} → statement M
-first-not-finite-spec = tie.close (tie.spec Inv-loop μ-loop loop-holds mul-x shared-slice-read-x is-finite-requires returns add-i loop-less loop-again returns-2)
+first-not-finite-spec = tie.close (tie.spec Inv-loop μ-loop eights-finite-requires loop-holds mul-x shared-slice-read-x is-finite-requires returns add-i loop-less loop-again returns-2)

@@ -1,14 +1,14 @@
 -- `slices::first_outside` meets its contract: no place passed is outside. Assumes nothing.
-use mathlib.Core.Path.{_≡_, refl, sym, ap, _∙_}
-use Prim.Native.Nat.{ℕ, _≤_, _<_, _-_, _+_}
+use mathlib.Core.Path.{_≡_, sym, ap, _∙_}
+use Prim.Native.Nat.{ℕ, _≤_, _<_, _-_}
 use native.Mathlib.Omega.{arith}
-use mathlib.Core.Bool.{Bool, true, false, not, _&&_}
+use mathlib.Core.Bool.{Bool, false, not}
 use mathlib.Core.List.{List}
 use lib.ListN.{length, getD}
-use lib.Ieee.{Float, nan, le, neg}
+use lib.Ieee.{Float, nan}
 use borrow.Author.Needs.{needs}
 use borrow.Author.Count.{below-more}
-use Rattle.slices.specs.Limit.{within, firstOutside}
+use Rattle.slices.specs.Limit.{within}
 use Rattle.slices.proofs.FirstLaw.{nowhere, at-first}
 use Rattle.slices.proofs.first_outside.Statement.{statement}
 use Rattle.slices.proofs.first_outside.Tie as tie
@@ -22,8 +22,11 @@ Inv-loop s limit i₀ i = (i ≤ length s) × ((j : ℕ) → j < i → not (with
 abbrev μ-loop : tie.MeasureT-loop
 μ-loop s limit i₀ i = length s - i
 
+eights-within-requires : tie.Need-eights-within-requires Inv-loop μ-loop
+eights-within-requires c κs = search needs
+
 loop-holds : tie.Need-loop-holds Inv-loop μ-loop
-loop-holds c = (search needs, λ j h. absurd (omega arith))
+loop-holds c = (c .eights-within .ensures .0, λ j h. ap not (c .eights-within .ensures .1 j h))
 
 mul-x : tie.Need-mul-x Inv-loop μ-loop
 mul-x c = search needs
@@ -37,7 +40,7 @@ is-within-requires c κs = search needs
 returns : tie.Need-returns Inv-loop μ-loop
 returns c =
     let l = c .before .before .before .before in
-    let a = l .before .before .args in
+    let a = l .before .before .before .args in
     sym (at-first (outside (a .limit) (a .s .now)) (length (a .s .now)) (l .loop .i) (omega arith) (l .loop .inv .1) (ap not (sym (c .before .is-within .ensures)) ∙ c .if1 .taken))
 
 add-i : tie.Need-add-i Inv-loop μ-loop
@@ -51,9 +54,23 @@ loop-again c = (search needs, below-more _ _ (c .before .before .before .before 
 
 returns-2 : tie.Need-returns-2 Inv-loop μ-loop
 returns-2 c =
-    let a = c .before .before .before .args in
+    let a = c .before .before .before .before .args in
     let e : c .before .loop .i ≡ length (a .s .now) = omega arith in
     sym (nowhere (outside (a .limit) (a .s .now)) (length (a .s .now)) (λ j h. c .before .loop .inv .1 j (omega arith)))
 
 pub first-outside-spec : {M : Type 1} → statement M
-first-outside-spec = tie.close (tie.spec Inv-loop μ-loop loop-holds mul-x shared-slice-read-x is-within-requires returns add-i loop-less loop-again returns-2)
+first-outside-spec =
+    tie.close
+    (tie.spec
+    Inv-loop
+    μ-loop
+    eights-within-requires
+    loop-holds
+    mul-x
+    shared-slice-read-x
+    is-within-requires
+    returns
+    add-i
+    loop-less
+    loop-again
+    returns-2)
