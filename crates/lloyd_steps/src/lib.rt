@@ -173,7 +173,7 @@ fn start_refine(
     start_round(samples, work, ints, slots, profile, s)
 }
 
-// The checks, the initial codebook, and the first repair.
+// The checks, the initial codebook, and the first repair. Once it has begun, what stands in the work beside its codebooks is for the next steps; where it is refused it is left for the end to zero.
 pub fn begin_refine(
     initial: &[f64],
     samples: &[f64],

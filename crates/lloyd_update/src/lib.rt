@@ -279,7 +279,7 @@ fn repair_on(
     }
 }
 
-// The checks, the means, and the first repair.
+// The checks, the means, and the first repair. Once it has begun, what stands in work and counts is for the next steps; where it is refused it is left for the end to zero.
 pub fn begin_update(
     codebook: &[f64],
     samples: &[f64],

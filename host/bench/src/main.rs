@@ -1,6 +1,7 @@
 //! Every entry point of the proved library beside the published Rust's: the tables of docs/PERFORMANCE.md, on stdout.
 //!
-//! Both sides run in one process and in turn. Before a pair is measured both sides' answers are held to be the same.
+//! Both sides run in one process and in turn. Before training and codes are measured both sides' answers are held to be
+//! the same.
 
 mod codes;
 mod data;
