@@ -15,6 +15,10 @@ use Rattle.profile.specs.Tests.{indexWidth}
 use Rattle.profile.specs.Facts.{Valid}
 use Rattle.profile.proofs.Facts as profile-facts
 use Rattle.profile.proofs.Width.{least-width}
+use Rattle.lloyd_search.specs.Finite.{FiniteValues}
+use Rattle.lloyd_search.proofs.AnswersLaw.{passed-bounded}
+use Rattle.codebook.specs.Codebook.{firstNotFinite}
+use Rattle.codebook.proofs.CodebookLaw.{all-finite}
 use Rattle.decode.specs.Decode.{values}
 use Rattle.decode.proofs.AcceptLaw.{passed-length}
 use Rattle.encode.specs.Encode.{normOf, frameLength, lengths, normed, codable}
@@ -65,6 +69,11 @@ indices-fit p v =
     let h = least-width (p .«codebook_size») .holds in
     let b = v .shape .book-least in
     rw (v .width) (omega arith)
+
+-- what the search asks of the codewords follows from the checks
+pub codewords-finite : (p : FibQuantProfile) (schema algorithm : List ℕ) (log2 : Float) (matrix codewords input : List Float) (output work bits : ℕ) → Codable p schema algorithm log2 matrix codewords input output work bits → FiniteValues codewords
+unfolding values
+codewords-finite p schema algorithm log2 matrix codewords input output work bits q = all-finite codewords (passed-bounded 4 (firstNotFinite codewords) _ tt (q .values-pass) .0)
 
 -- what the work asks follows from the checks
 pub writable : (p : FibQuantProfile) (schema algorithm : List ℕ) (log2 : Float) (matrix codewords input : List Float) (output work bits : ℕ) → Codable p schema algorithm log2 matrix codewords input output work bits

@@ -18,6 +18,7 @@ ghost use Rattle.slices.specs.Lists.{patched};
 ghost use Rattle.narrow.specs.Pack.{narrowTo};
 ghost use Rattle.bitpack.specs.Layout.{packedBytes};
 ghost use Rattle.compact.specs.Frame.{bytesOf, header, frameOf};
+ghost use Rattle.lloyd_search.specs.Finite.{FiniteValues};
 ghost use Rattle.norm.specs.Norm.{bitsOf};
 ghost use Rattle.decode.specs.Decode.{accepted, contents};
 ghost use Rattle.encode.specs.Encode.{normOf, normalizedAt, searched, indicesFor, lengths, normed, codable, encoding};
@@ -164,7 +165,7 @@ fn write_indices(
     values: &[f64],
     output: &mut [u8],
 )
-    requires { ⌜ Searchable count k n width (length (now values)) (length (now codewords)) (length (now output)) ⌝ }
+    requires { ⌜ (Searchable count k n width (length (now values)) (length (now codewords)) (length (now output))) × FiniteValues (now codewords) ⌝ }
     ensures { λ r. ⌜ now (output .exit) ≡ packedBytes (indicesFor count k n (now (codewords .entry)) (now (values .entry))) width ⌝ }
 {
     let mut writer = BitWriter::new();
@@ -202,7 +203,7 @@ fn write_frame(
     values: &[f64],
     output: &mut [u8],
 )
-    requires { ⌜ (Searchable count k n width (length (now values)) (length (now codewords)) (length (drop 13 (now output)))) × (13 ≤ length (now output)) ⌝ }
+    requires { ⌜ (Searchable count k n width (length (now values)) (length (now codewords)) (length (drop 13 (now output)))) × (13 ≤ length (now output)) × FiniteValues (now codewords) ⌝ }
     ensures { λ r. ⌜ now (output .exit) ≡ frameOf width count (bytesOf 2 bits) (packedBytes (indicesFor count k n (now (codewords .entry)) (now (values .entry))) width) ⌝ }
 {
     write_front(width, count, bits, output);
@@ -231,7 +232,7 @@ fn write_code(
     output: &mut [u8],
     work: &mut [f64],
 )
-    requires { ⌜ Writable (length (now input)) k n count width (length (now matrix)) (length (now codewords)) (length (now output)) (length (now work)) ⌝ }
+    requires { ⌜ (Writable (length (now input)) k n count width (length (now matrix)) (length (now codewords)) (length (now output)) (length (now work))) × FiniteValues (now codewords) ⌝ }
     ensures { λ r. ⌜ now (output .exit) ≡ frameOf width count (bytesOf 2 bits) (packedBytes (indicesFor count k n (now (codewords .entry)) (searched (length (now (input .entry))) (now (matrix .entry)) (now (input .entry)) norm)) width) ⌝ }
     ensures { λ r. ⌜ now (work .exit) ≡ replicate (length (now (work .entry))) plusZero ⌝ }
 {

@@ -4,3 +4,5 @@ pub mod NearestLaw
 pub mod LimitLaw
 pub mod FiniteLaw
 pub mod AnswersLaw
+mod WidenLaw
+mod Fours

@@ -1,9 +1,11 @@
 -- Every arithmetic result of a distance, of a search and of a mean error is finite. Definitions only.
 -- (The +infinity from which a search starts is a constant and no result; a comparison has no float for a result.)
 use Prim.Native.Nat.{ℕ, _≤_, _<_}
+use mathlib.Core.List.{List}
 use lib.Dec.{T}
 use lib.IntN.{pos}
-use lib.Ieee.{Float, binary64, sub, ofInt}
+use lib.ListN.{length, getD}
+use lib.Ieee.{Float, nan, binary64, sub, ofInt}
 use lib.Ieee.Scale.{finite}
 use Rattle.ieee.specs.Sum.{sumTo, squaredDifference}
 use Rattle.lloyd_search.specs.declared.Found.{Found}
@@ -27,3 +29,7 @@ pub record FiniteMean (k n : ℕ) (book samples : ℕ → ℕ → Float) (S : �
   pub partial-sums : (m : ℕ) → m ≤ S → T (finite (sumTo (λ s. nearest k n book (samples s) .distance) m))
   pub count : T (finite (ofInt binary64 (pos S)))
   pub quotient : T (finite (meanError k n book samples S))
+
+-- each value of a list: what the search over binary32 codewords asks of them
+abbrev pub FiniteValues : List Float → Type 0
+FiniteValues xs = (i : ℕ) → i < length xs → T (finite (getD xs i nan))

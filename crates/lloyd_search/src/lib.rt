@@ -6,6 +6,7 @@ ghost use lib.Ieee.{Float, lt};
 ghost use Rattle.lloyd_search.specs.Distance.{distance, vectorOf, rowOf};
 ghost use Rattle.lloyd_search.specs.Nearest.{pick, nearest, meanError};
 ghost use Rattle.lloyd_search.specs.Four.{Distances};
+ghost use Rattle.lloyd_search.specs.Finite.{FiniteValues};
 ghost use Rattle.lloyd_search.specs.Answers.{codebookShaped, samplesShaped, nearestAlone, meanErrorAlone, nearestOf, errorOf};
 use error::Refusal;
 use slices::First;
@@ -152,25 +153,55 @@ pub fn search(codewords: &[f64], n: usize, block: &[f64]) -> Found
     best
 }
 
-// Public only for the crates above: the squared distance of a vector to one of binary32 values, widened.
+// Public only for the crates above: the squared distance of a vector to one of finite binary32 values, widened.
 pub fn squared_distance_f32(a: &[f64], b: &[f32]) -> f64
-    requires { ⌜ length (now a) ≡ length (now b) ⌝ }
+    requires { ⌜ (length (now a) ≡ length (now b)) × FiniteValues (now b) ⌝ }
     ensures { λ r. ⌜ r ≡ distance (length (now (a .entry))) (vectorOf (now (a .entry))) (vectorOf (now (b .entry))) ⌝ }
 {
     let mut sum = 0.0;
     let mut j = 0usize;
     while j < a.len() {
-        let delta = a[j] - std::num::f32_to_f64_with_nan(b[j]);
+        let delta = a[j] - b[j] as f64;
         sum = sum + delta * delta;
         j += 1usize;
     }
     sum
 }
 
-// Public only for the crates above: `search` over codewords of binary32 values, widened.
-pub fn search_f32(codewords: &[f32], n: usize, block: &[f64]) -> Found
-    requires { ⌜ length (now codewords) ≡ n * length (now block) ⌝ }
-    ensures { λ r. ⌜ r ≡ nearest (length (now (block .entry))) n (rowOf (length (now (block .entry))) (now (codewords .entry))) (vectorOf (now (block .entry))) ⌝ }
+// `four_distances` to codewords of finite binary32 values, widened.
+fn four_distances_f32(block: &[f64], a: &[f32], b: &[f32], c: &[f32], d: &[f32]) -> Four
+    requires { ⌜ (length (now a) ≡ length (now block)) × (length (now b) ≡ length (now block)) × (length (now c) ≡ length (now block)) × (length (now d) ≡ length (now block)) × FiniteValues (now a) × FiniteValues (now b) × FiniteValues (now c) × FiniteValues (now d) ⌝ }
+    ensures { λ r. ⌜ Distances (length (now (block .entry))) (vectorOf (now (block .entry))) (vectorOf (now (a .entry))) (vectorOf (now (b .entry))) (vectorOf (now (c .entry))) (vectorOf (now (d .entry))) r ⌝ }
+{
+    let mut first = 0.0;
+    let mut second = 0.0;
+    let mut third = 0.0;
+    let mut fourth = 0.0;
+    let mut j = 0usize;
+    while j < block.len() {
+        let x = block[j];
+        let e = x - a[j] as f64;
+        let f = x - b[j] as f64;
+        let g = x - c[j] as f64;
+        let h = x - d[j] as f64;
+        first = first + e * e;
+        second = second + f * f;
+        third = third + g * g;
+        fourth = fourth + h * h;
+        j += 1usize;
+    }
+    Four {
+        first,
+        second,
+        third,
+        fourth,
+    }
+}
+
+// `search_fours` over codewords of finite binary32 values, widened.
+fn search_fours_f32(codewords: &[f32], fours: usize, block: &[f64]) -> Found
+    requires { ⌜ (fours * 4 < 2 ^ 64) × (fours * 4 * length (now block) ≤ length (now codewords)) × FiniteValues (now codewords) ⌝ }
+    ensures { λ r. ⌜ r ≡ nearest (length (now (block .entry))) (fours * 4) (rowOf (length (now (block .entry))) (now (codewords .entry))) (vectorOf (now (block .entry))) ⌝ }
 {
     let k = block.len();
     let mut best = Found {
@@ -179,6 +210,39 @@ pub fn search_f32(codewords: &[f32], n: usize, block: &[f64]) -> Found
     };
     let mut i = 0usize;
     let mut at = 0usize;
+    let mut turn = 0usize;
+    while turn < fours {
+        let at2 = at + k;
+        let at3 = at2 + k;
+        let at4 = at3 + k;
+        let end = at4 + k;
+        let four = four_distances_f32(
+            block,
+            &codewords[at..at2],
+            &codewords[at2..at3],
+            &codewords[at3..at4],
+            &codewords[at4..end],
+        );
+        let one = nearer(best, i, four.first);
+        let two = nearer(one, i + 1, four.second);
+        let three = nearer(two, i + 2, four.third);
+        best = nearer(three, i + 3, four.fourth);
+        at = end;
+        i += 4usize;
+        turn += 1usize;
+    }
+    best
+}
+
+// Public only for the crates above: `search` over codewords of finite binary32 values, widened.
+pub fn search_f32(codewords: &[f32], n: usize, block: &[f64]) -> Found
+    requires { ⌜ (length (now codewords) ≡ n * length (now block)) × FiniteValues (now codewords) ⌝ }
+    ensures { λ r. ⌜ r ≡ nearest (length (now (block .entry))) n (rowOf (length (now (block .entry))) (now (codewords .entry))) (vectorOf (now (block .entry))) ⌝ }
+{
+    let k = block.len();
+    let mut best = search_fours_f32(codewords, n / 4, block);
+    let mut i = n / 4 * 4;
+    let mut at = i * k;
     while i < n {
         let end = at + k;
         best = nearer(best, i, squared_distance_f32(block, &codewords[at..end]));

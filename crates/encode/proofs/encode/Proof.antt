@@ -12,7 +12,7 @@ use Rattle.norm.specs.Norm.{bitsOf}
 use Rattle.decode.specs.Decode.{accepted, contents}
 use Rattle.encode.specs.Encode.{searched, indicesFor, frameFor, codable}
 use Rattle.encode.proofs.CheckLaw.{code-refused, encoding-is}
-use Rattle.encode.proofs.AcceptLaw.{Codable, codable-accepted, writable}
+use Rattle.encode.proofs.AcceptLaw.{Codable, codable-accepted, writable, codewords-finite}
 use borrow.Author.Needs.{needs}
 use Rattle.encode.proofs.encode.Statement.{statement}
 use Rattle.encode.proofs.encode.Tie as tie
@@ -49,7 +49,10 @@ write-code-requires : tie.Need-write-code-requires
 write-code-requires c κs =
     let k = c .before .before in
     let a = k .before .before .before .before .before .before .before .before .before .before .before .before .args in
-    writable (a .profile) (a .schema .now) (a .rotation-algorithm .now) (a .log2) (a .matrix .now) (a .codewords .now) (a .input .now) (length (a .output .now)) (length (a .work .now)) (k .before .checks2 .given .0 .0) (passes k)
+    let bits = k .before .checks2 .given .0 .0 in (
+      writable (a .profile) (a .schema .now) (a .rotation-algorithm .now) (a .log2) (a .matrix .now) (a .codewords .now) (a .input .now) (length (a .output .now)) (length (a .work .now)) bits (passes k),
+      codewords-finite (a .profile) (a .schema .now) (a .rotation-algorithm .now) (a .log2) (a .matrix .now) (a .codewords .now) (a .input .now) (length (a .output .now)) (length (a .work .now)) bits (passes k),
+    )
 
 returns : tie.Need-returns
 returns c =

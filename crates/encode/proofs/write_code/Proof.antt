@@ -48,7 +48,7 @@ values c =
     let r₃ = c .before .before .before .before .before .round-half in
     let d = length (a .input .now) in
     take-all (length (r₃ .last .0) - d) (drop d (r₃ .last .0)) (rw (length-drop d (r₃ .last .0)) (omega arith))
-    ∙ seen d (a .matrix .now) (a .input .now) (a .norm) (a .work .now) (r₁ .last .1 .1 .0) (r₂ .last .1 .0) (r₃ .last .0) d refl (s .pre .halves) (r₁ .ensures) (r₂ .ensures) (r₃ .ensures)
+    ∙ seen d (a .matrix .now) (a .input .now) (a .norm) (a .work .now) (r₁ .last .1 .1 .0) (r₂ .last .1 .0) (r₃ .last .0) d refl (s .pre .0 .halves) (r₁ .ensures) (r₂ .ensures) (r₃ .ensures)
 
 same : (c : tie.After-write-frame-arg2) → length (c .before .before .before .before .before .round-half .last .0) ≡ length (c .before .before .before .before .before .before .before .before .before .before .before .before .before .before .before .before .before .before .before .before .args .work .now)
 same c = c .before .before .before .before .before .round-half .kept .0 ∙ c .before .before .before .before .before .before .before .before .before .rotate-within .kept .1 .0 ∙ c .before .before .before .before .before .before .before .before .before .before .before .before .before .normalize .kept .1 .1 .0
@@ -57,7 +57,7 @@ write-frame-requires : tie.Need-write-frame-requires
 write-frame-requires c κs =
     let s = c .before .before .before .before .before .before .before .before .before .before .before .before .before .before .before .before .before .before .before .before in
     let a = s .args in
-    let q = s .pre in (
+    let q = s .pre .0 in (
       record {
         blocks = ap length (values c) ∙ length-tabulate (length (a .input .now)) (searchedAt (length (a .input .now)) (a .matrix .now) (a .input .now) (a .norm)) ∙ q .blocks;
         book = q .book;
@@ -68,6 +68,7 @@ write-frame-requires c κs =
         room = rw (length-drop 13 (a .output .now)) (omega (arith, q .room));
       },
       omega (arith, q .room),
+      s .pre .1,
     )
 
 zero-f64-requires : tie.Need-zero-f64-requires

@@ -44,15 +44,18 @@ write-indices-requires : tie.Need-write-indices-requires
 write-indices-requires c κs =
     let s = c .before .before .before .before .before .before .before .before in
     let q = s .pre .0 in
-    let w = c .before .before .before .write-front in record {
-      blocks = q .blocks;
-      book = q .book;
-      some = q .some;
-      fits = q .fits;
-      most = q .most;
-      narrow = q .narrow;
-      room = part-room (s .args .output .now) (w .last .1 .1 .1 .0) _ (w .kept .1 .1 .1 .0) (q .room);
-    }
+    let w = c .before .before .before .write-front in (
+      record {
+        blocks = q .blocks;
+        book = q .book;
+        some = q .some;
+        fits = q .fits;
+        most = q .most;
+        narrow = q .narrow;
+        room = part-room (s .args .output .now) (w .last .1 .1 .1 .0) _ (w .kept .1 .1 .1 .0) (q .room);
+      },
+      s .pre .2,
+    )
 
 same-length : tie.Need-same-length
 same-length c = search needs

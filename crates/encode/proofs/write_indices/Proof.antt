@@ -41,7 +41,7 @@ loop-holds c =
 inside : (c : tie.In-loop Inv-loop μ-loop) → let a = c .before .before .before .before .before .before .args in c .before .loop .at + a .k ≤ length (a .values .now)
 inside c =
     let s = c .before .before .before .before .before .before in
-    row-fits (c .before .loop .i) (s .args .count) (s .args .k) (c .before .loop .at) (length (s .args .values .now)) (omega arith) (c .before .loop .inv .1) (s .pre .blocks)
+    row-fits (c .before .loop .i) (s .args .count) (s .args .k) (c .before .loop .at) (length (s .args .values .now)) (omega arith) (c .before .loop .inv .1) (s .pre .0 .blocks)
 
 add-end : tie.Need-add-end Inv-loop μ-loop
 add-end c = record { fits = omega (arith, inside c) }
@@ -62,7 +62,7 @@ search-f32-requires : tie.Need-search-f32-requires Inv-loop μ-loop
 search-f32-requires c κs =
     let l = c .before .before in
     let s = l .before .before .before .before .before in
-    s .pre .book ∙ ap (λ (m : ℕ). s .args .n * m) (sym (part-length (s .args .values .now) (l .loop .i) (s .args .k) (l .loop .at) (l .loop .inv .1) (inside (c .before))))
+    (s .pre .0 .book ∙ ap (λ (m : ℕ). s .args .n * m) (sym (part-length (s .args .values .now) (l .loop .i) (s .args .k) (l .loop .at) (l .loop .inv .1) (inside (c .before)))), s .pre .1)
 
 -- the codeword found: that of the definition, and one of the n
 found : (c : tie.After-search-f32 Inv-loop μ-loop) → let a = c .before .before .before .before .before .before .before .before .args in c .search-f32 .result .index ≡ indexFor (a .k) (a .n) (a .codewords .now) (a .values .now) (c .before .before .before .loop .i)
@@ -75,7 +75,7 @@ below : (c : tie.After-search-f32 Inv-loop μ-loop) → c .search-f32 .result .i
 below c =
     let l = c .before .before .before in
     let s = l .before .before .before .before .before in
-    rw (found c) (index-below (λ m. distance (s .args .k) (rowOf (s .args .k) (s .args .values .now) (l .loop .i)) (rowOf (s .args .k) (s .args .codewords .now) m)) (s .args .n) (s .pre .some))
+    rw (found c) (index-below (λ m. distance (s .args .k) (rowOf (s .args .k) (s .args .values .now) (l .loop .i)) (rowOf (s .args .k) (s .args .codewords .now) m)) (s .args .n) (s .pre .0 .some))
 
 -- the bits of the packing at its place
 placed : (c : tie.After-search-f32 Inv-loop μ-loop) → let a = c .before .before .before .before .before .before .before .before .args in c .search-f32 .result .index ≡ field (packedBit (indicesFor (a .count) (a .k) (a .n) (a .codewords .now) (a .values .now)) (a .width)) (c .before .before .before .loop .i * a .width) (a .width)
@@ -86,18 +86,18 @@ placed c =
     let b : l .loop .i < a .count = omega arith in
     let n : l .loop .i < length (indicesFor (a .count) (a .k) (a .n) (a .codewords .now) (a .values .now)) = rw (length-indices (a .count) (a .k) (a .n) (a .codewords .now) (a .values .now)) b in
     found c ∙ sym (getD-indices (a .count) (a .k) (a .n) (a .codewords .now) (a .values .now) (l .loop .i) b)
-    ∙ sym (packed-index (indicesFor (a .count) (a .k) (a .n) (a .codewords .now) (a .values .now)) (a .width) (l .loop .i) n (index-fits (a .count) (a .k) (a .n) (a .codewords .now) (a .values .now) (a .width) (s .pre .some) (s .pre .fits) (l .loop .i) b))
+    ∙ sym (packed-index (indicesFor (a .count) (a .k) (a .n) (a .codewords .now) (a .values .now)) (a .width) (l .loop .i) n (index-fits (a .count) (a .k) (a .n) (a .codewords .now) (a .values .now) (a .width) (s .pre .0 .some) (s .pre .0 .fits) (l .loop .i) b))
 
 cast-push : tie.Need-cast-push Inv-loop μ-loop
-cast-push c = record { fits = omega (arith, below c, c .before .before .before .before .before .before .before .before .pre .most) }
+cast-push c = record { fits = omega (arith, below c, c .before .before .before .before .before .before .before .before .pre .0 .most) }
 
 push-requires : tie.Need-push-requires Inv-loop μ-loop
 push-requires c κs =
     let l = c .before .before .before .before in
     let s = l .before .before .before .before .before in
     let a = s .args in
-    pushable (packedBit (indicesFor (a .count) (a .k) (a .n) (a .codewords .now) (a .values .now)) (a .width)) (l .loop .i * a .width) (a .output .now) (l .loop .output) (c .before .search-f32 .result .index) (a .width) (l .loop .writer) (l .loop .inv .3) (placed (c .before)) (omega (arith, s .pre .narrow))
-    (omega (arith, s .pre .room, next-within (l .loop .i) (a .count) (a .width) (omega arith)))
+    pushable (packedBit (indicesFor (a .count) (a .k) (a .n) (a .codewords .now) (a .values .now)) (a .width)) (l .loop .i * a .width) (a .output .now) (l .loop .output) (c .before .search-f32 .result .index) (a .width) (l .loop .writer) (l .loop .inv .3) (placed (c .before)) (omega (arith, s .pre .0 .narrow))
+    (omega (arith, s .pre .0 .room, next-within (l .loop .i) (a .count) (a .width) (omega arith)))
 
 add-i : tie.Need-add-i Inv-loop μ-loop
 add-i c = search needs
@@ -122,7 +122,7 @@ finish-requires c κs =
     let l = c .before .before in
     let s = l .before .before .before .before .before in
     let a = s .args in
-    finishable (packedBit (indicesFor (a .count) (a .k) (a .n) (a .codewords .now) (a .values .now)) (a .width)) (l .loop .i * a .width) (a .output .now) (l .loop .output) (l .loop .writer) (l .loop .inv .3) (omega (arith, s .pre .room, mul-le-mul-right (a .width) (l .loop .inv .0)))
+    finishable (packedBit (indicesFor (a .count) (a .k) (a .n) (a .codewords .now) (a .values .now)) (a .width)) (l .loop .i * a .width) (a .output .now) (l .loop .output) (l .loop .writer) (l .loop .inv .3) (omega (arith, s .pre .0 .room, mul-le-mul-right (a .width) (l .loop .inv .0)))
 
 packed : (c : tie.After-slice-known3 Inv-loop μ-loop) → let a = c .before .before .before .before .before .before .before .before .before .before .args in c .before .before .finish .last .1 .0 ≡ packedBytes (indicesFor (a .count) (a .k) (a .n) (a .codewords .now) (a .values .now)) (a .width)
 packed c =
@@ -134,13 +134,13 @@ packed c =
     let len = length-indices (a .count) (a .k) (a .n) (a .codewords .now) (a .values .now) in
     let stands : WriterAt f (length (indicesFor (a .count) (a .k) (a .n) (a .codewords .now) (a .values .now)) * a .width) (a .output .now) (l .loop .output) (l .loop .writer) = rw e at (l .loop .inv .3) in
     c .before .before .finish .ensures f (length (indicesFor (a .count) (a .k) (a .n) (a .codewords .now) (a .values .now)) * a .width) (a .output .now) stands (packed-after (indicesFor (a .count) (a .k) (a .n) (a .codewords .now) (a .values .now)) (a .width))
-    ∙ begun-whole (byteOf f) (a .output .now) (bytesFor (length (indicesFor (a .count) (a .k) (a .n) (a .codewords .now) (a .values .now)) * a .width)) (omega (arith, s .pre .room, ap (λ (m : ℕ). m * a .width) len))
+    ∙ begun-whole (byteOf f) (a .output .now) (bytesFor (length (indicesFor (a .count) (a .k) (a .n) (a .codewords .now) (a .values .now)) * a .width)) (omega (arith, s .pre .0 .room, ap (λ (m : ℕ). m * a .width) len))
 
 same-length : tie.Need-same-length Inv-loop μ-loop
 same-length c =
     let s = c .before .before .before .before .before .before .before .before .before .before in
     let a = s .args in
-    ap length (packed c) ∙ length-packed (indicesFor (a .count) (a .k) (a .n) (a .codewords .now) (a .values .now)) (a .width) ∙ ap (λ (m : ℕ). bytesFor (m * a .width)) (length-indices (a .count) (a .k) (a .n) (a .codewords .now) (a .values .now)) ∙ sym (s .pre .room)
+    ap length (packed c) ∙ length-packed (indicesFor (a .count) (a .k) (a .n) (a .codewords .now) (a .values .now)) (a .width) ∙ ap (λ (m : ℕ). bytesFor (m * a .width)) (length-indices (a .count) (a .k) (a .n) (a .codewords .now) (a .values .now)) ∙ sym (s .pre .0 .room)
 
 returns : tie.Need-returns Inv-loop μ-loop
 returns c = packed c

@@ -1,7 +1,7 @@
 -- `lloyd_search::search` meets its contract: from what the fours give, the best so far is the first least of the codewords passed. Assumes nothing.
 use mathlib.Core.Path.{_≡_, refl, sym, ap, _∙_}
-use Prim.Native.Nat.{ℕ, _≤_, _<_, _-_, _+_, _*_, _/_, _^_}
-use native.Mathlib.Nat.{div-mul-le-self, mul-le-mul-right}
+use Prim.Native.Nat.{ℕ, _≤_, _-_, _+_, _*_}
+use native.Mathlib.Nat.{div-mul-le-self}
 use native.Mathlib.Omega.{arith}
 use lib.ListN.{length}
 use lib.Ieee.{Float}
@@ -10,6 +10,7 @@ use Rattle.lloyd_search.specs.declared.Found.{Found}
 use Rattle.lloyd_search.specs.Distance.{distance, vectorOf, rowOf}
 use Rattle.lloyd_search.specs.Nearest.{nearest}
 use Rattle.lloyd_search.proofs.Parts.{row-fits, next-row, part-length, part-distance}
+use Rattle.lloyd_search.proofs.Fours.{fours-fit}
 use Rattle.lloyd_search.proofs.NearestLaw.{one-more}
 use Rattle.lloyd_search.proofs.search.Statement.{statement}
 use Rattle.lloyd_search.proofs.search.Tie as tie
@@ -20,10 +21,6 @@ Inv-loop codewords n block k best₀ i₀ at₀ best i at =
 
 abbrev μ-loop : tie.MeasureT-loop
 μ-loop codewords n block k best₀ i₀ at₀ best i at = n - i
-
--- the codewords in fours, of all
-fours-fit : (n k L : ℕ) → n < 2 ^ 64 → L ≡ n * k → (n / 4 * 4 < 2 ^ 64) × (n / 4 * 4 * k ≤ L)
-fours-fit n k L h e = let d = div-mul-le-self n 4 in (omega arith, omega (arith, mul-le-mul-right k d))
 
 search-fours-requires : tie.Need-search-fours-requires Inv-loop μ-loop
 search-fours-requires c κs =

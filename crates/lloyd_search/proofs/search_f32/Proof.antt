@@ -1,14 +1,17 @@
--- `lloyd_search::search_f32` meets its contract: the best so far is the first least of the codewords passed. Assumes nothing.
+-- `lloyd_search::search_f32` meets its contract: from what the fours give, the best so far is the first least of the codewords passed. Assumes nothing.
 use mathlib.Core.Path.{_≡_, refl, sym, ap, _∙_}
 use Prim.Native.Nat.{ℕ, _≤_, _-_, _+_, _*_}
+use native.Mathlib.Nat.{div-mul-le-self}
 use native.Mathlib.Omega.{arith}
 use lib.ListN.{length}
-use lib.Ieee.{Float, ofBits, nanBits}
+use lib.Ieee.{Float}
 use borrow.Author.Needs.{needs}
 use Rattle.lloyd_search.specs.declared.Found.{Found}
 use Rattle.lloyd_search.specs.Distance.{distance, vectorOf, rowOf}
-use Rattle.lloyd_search.specs.Nearest.{firstLeast, nearest}
+use Rattle.lloyd_search.specs.Nearest.{nearest}
 use Rattle.lloyd_search.proofs.Parts.{row-fits, next-row, part-length, part-distance}
+use Rattle.lloyd_search.proofs.WidenLaw.{part-finite}
+use Rattle.lloyd_search.proofs.Fours.{fours-fit}
 use Rattle.lloyd_search.proofs.NearestLaw.{one-more}
 use Rattle.lloyd_search.proofs.search_f32.Statement.{statement}
 use Rattle.lloyd_search.proofs.search_f32.Tie as tie
@@ -20,24 +23,34 @@ Inv-loop codewords n block k best₀ i₀ at₀ best i at =
 abbrev μ-loop : tie.MeasureT-loop
 μ-loop codewords n block k best₀ i₀ at₀ best i at = n - i
 
-float-from-bits-t9 : tie.Need-float-from-bits-t9 Inv-loop μ-loop
-unfolding nanBits
-float-from-bits-t9 c = tt
+search-fours-f32-requires : tie.Need-search-fours-f32-requires Inv-loop μ-loop
+search-fours-f32-requires c κs =
+    let s = c .before .before in
+    let h = fours-fit (s .args .n) (length (s .args .block .now)) (length (s .args .codewords .now)) (s .fits .n .fits) (s .pre .0) in
+    (h .0, h .1, s .pre .1)
+
+mul-i : tie.Need-mul-i Inv-loop μ-loop
+mul-i c = record { fits = omega (arith, div-mul-le-self (c .before .before .before .args .n) 4, c .before .before .before .fits .n .fits) }
+
+mul-at : tie.Need-mul-at Inv-loop μ-loop
+mul-at c =
+    let a = c .before .before .before .args in
+    let h = fours-fit (a .n) (length (a .block .now)) (length (a .codewords .now)) (c .before .before .before .fits .n .fits) (c .before .before .before .pre .0) in
+    record { fits = omega (arith, h .1, c .before .before .before .good .0 .0) }
 
 loop-holds : tie.Need-loop-holds Inv-loop μ-loop
-unfolding ofBits firstLeast
-loop-holds c = (search needs, omega arith, refl)
+loop-holds c = (div-mul-le-self (c .before .before .before .args .n) 4, refl, c .search-fours-f32 .ensures)
 
-inside : (c : tie.In-loop Inv-loop μ-loop) → c .before .loop .at + length (c .before .before .before .before .args .block .now) ≤ length (c .before .before .before .before .args .codewords .now)
+inside : (c : tie.In-loop Inv-loop μ-loop) → c .before .loop .at + length (c .before .before .before .before .before .args .block .now) ≤ length (c .before .before .before .before .before .args .codewords .now)
 inside c =
-    let a = c .before .before .before .before .args in
-    row-fits (c .before .loop .i) (a .n) (length (a .block .now)) (c .before .loop .at) (length (a .codewords .now)) (c .loop-test .taken) (c .before .loop .inv .1) (c .before .before .before .before .pre)
+    let a = c .before .before .before .before .before .args in
+    row-fits (c .before .loop .i) (a .n) (length (a .block .now)) (c .before .loop .at) (length (a .codewords .now)) (c .loop-test .taken) (c .before .loop .inv .1) (c .before .before .before .before .before .pre .0)
 
 add-end : tie.Need-add-end Inv-loop μ-loop
 add-end c = record { fits = omega (arith, inside c) }
 
 mul-squared-distance-f32 : tie.Need-mul-squared-distance-f32 Inv-loop μ-loop
-mul-squared-distance-f32 c = record { fits = omega (arith, inside c, c .before .before .before .before .good .0 .1) }
+mul-squared-distance-f32 c = record { fits = omega (arith, inside c, c .before .before .before .before .before .good .0 .1) }
 
 sub-squared-distance-f32 : tie.Need-sub-squared-distance-f32 Inv-loop μ-loop
 sub-squared-distance-f32 c = search needs
@@ -51,8 +64,9 @@ part-squared-distance-f32-end c = inside c
 squared-distance-f32-requires : tie.Need-squared-distance-f32-requires Inv-loop μ-loop
 squared-distance-f32-requires c κs =
     let l = c .before .before in
-    let a = l .before .before .before .args in
-    sym (part-length (a .codewords .now) (l .loop .i) (length (a .block .now)) (l .loop .at) (l .loop .inv .1) (inside (c .before)))
+    let s = l .before .before .before .before in
+    let k = length (s .args .block .now) in
+    (sym (part-length (s .args .codewords .now) (l .loop .i) k (l .loop .at) (l .loop .inv .1) (inside (c .before))), part-finite (s .args .codewords .now) (l .loop .i) k (l .loop .at) (l .loop .inv .1) (inside (c .before)) (s .pre .1))
 
 nearer-requires : tie.Need-nearer-requires Inv-loop μ-loop
 nearer-requires c κs = tt
@@ -66,7 +80,7 @@ loop-less c = search needs
 loop-again : tie.Need-loop-again Inv-loop μ-loop
 loop-again c =
     let l = c .before .before .before .before .loop in
-    let a = c .before .before .before .before .before .before .before .args in
+    let a = c .before .before .before .before .before .before .before .before .args in
     let x = vectorOf (a .block .now) in
     let k = length (a .block .now) in
     let cw = a .codewords .now in (
@@ -78,7 +92,7 @@ loop-again c =
 
 returns : tie.Need-returns Inv-loop μ-loop
 returns c =
-    let a = c .before .before .before .before .args in
+    let a = c .before .before .before .before .before .args in
     let e : c .before .loop .i ≡ a .n = omega arith in
     c .before .loop .inv .2 ∙ ap (λ (m : ℕ). nearest (length (a .block .now)) m (rowOf (length (a .block .now)) (a .codewords .now)) (vectorOf (a .block .now))) e
 
@@ -88,7 +102,9 @@ search-f32-spec =
     (tie.spec
     Inv-loop
     μ-loop
-    float-from-bits-t9
+    search-fours-f32-requires
+    mul-i
+    mul-at
     loop-holds
     add-end
     mul-squared-distance-f32

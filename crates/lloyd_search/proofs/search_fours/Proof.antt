@@ -1,16 +1,14 @@
 -- `lloyd_search::search_fours` meets its contract: the best so far is the first least of the codewords passed, four more in each turn. Assumes nothing.
 use mathlib.Core.Path.{_≡_, refl, sym, ap, _∙_}
 use Prim.Native.Nat.{ℕ, _≤_, _<_, _-_, _+_, _*_, _^_}
-use native.Mathlib.Nat.{mul-le-mul-right, add-mul}
 use native.Mathlib.Omega.{arith}
 use lib.ListN.{length}
-use lib.Ieee.{Float, ofBits, nanBits}
+use lib.Ieee.{ofBits, nanBits}
 use borrow.Author.Needs.{needs}
-use Rattle.lloyd_search.specs.declared.Found.{Found}
-use Rattle.lloyd_search.specs.Distance.{distance, vectorOf, rowOf}
+use Rattle.lloyd_search.specs.Distance.{vectorOf, rowOf}
 use Rattle.lloyd_search.specs.Nearest.{firstLeast, nearest}
-use Rattle.lloyd_search.proofs.Parts.{later-row, part-length, part-distance}
-use Rattle.lloyd_search.proofs.NearestLaw.{one-more}
+use Rattle.lloyd_search.proofs.Parts.{part-length}
+use Rattle.lloyd_search.proofs.Fours.{four-fit, second, third, fourth, next, four-more}
 use Rattle.lloyd_search.proofs.search_fours.Statement.{statement}
 use Rattle.lloyd_search.proofs.search_fours.Tie as tie
 
@@ -29,10 +27,6 @@ loop-holds : tie.Need-loop-holds Inv-loop μ-loop
 unfolding ofBits firstLeast
 loop-holds c = (search needs, refl, omega arith, refl)
 
--- four more codewords lie within the list
-four-fit : (turn fours i k at L : ℕ) → turn < fours → i ≡ turn * 4 → at ≡ i * k → fours * 4 * k ≤ L → at + k + k + k + k ≤ L
-four-fit turn fours i k at L h e a l = let m : i + 4 ≤ fours * 4 = omega arith in omega (arith, mul-le-mul-right k m, add-mul i 4 k)
-
 inside : (c : tie.In-loop Inv-loop μ-loop) →
     let a = c .before .before .before .before .args in
     let k = length (a .block .now) in
@@ -44,20 +38,6 @@ inside c =
 
 index-fits : (c : tie.In-loop Inv-loop μ-loop) → c .before .loop .i + 4 < 2 ^ 64
 index-fits c = omega (arith, c .loop-test .taken, c .before .loop .inv .1, c .before .before .before .before .pre .0)
-
--- where the second, third and fourth codeword stand, and the next one
-module _ (i k at : ℕ) (is : at ≡ i * k) where
-  second : at + k ≡ (i + 1) * k
-  second = later-row i 1 k at (at + k) is (omega arith)
-
-  third : at + k + k ≡ (i + 2) * k
-  third = later-row i 2 k at (at + k + k) is (omega arith)
-
-  fourth : at + k + k + k ≡ (i + 3) * k
-  fourth = later-row i 3 k at (at + k + k + k) is (omega arith)
-
-  next : at + k + k + k + k ≡ (i + 4) * k
-  next = later-row i 4 k at (at + k + k + k + k) is (omega arith)
 
 add-at2 : tie.Need-add-at2 Inv-loop μ-loop
 add-at2 c = record { fits = omega (arith, inside c, c .before .before .before .before .good .0 .0) }
@@ -168,22 +148,14 @@ loop-again c =
     let q = c .before .before .before .before .before .before .before .before .before in
     let l = q .before .loop in
     let a = q .before .before .before .before .args in
-    let x = vectorOf (a .block .now) in
     let k = length (a .block .now) in
-    let cw = a .codewords .now in
-    let far : ℕ → Float = λ m. distance k x (rowOf k cw m) in
-    let f = c .before .before .before .before .four-distances in
-    let one = one-more far (l .i) (l .i + 1) (l .best) (c .before .before .before .nearer .result) (f .result .first) refl (l .inv .3) (f .ensures .to-first ∙ part-distance x cw (l .i) k (l .at) (l .inv .2)) (c .before .before .before .nearer .ensures) in
-    let two =
-    one-more far (l .i + 1) (l .i + 2) (c .before .before .before .nearer .result) (c .before .before .nearer2 .result) (f .result .second) (omega arith) one
-    (f .ensures .to-second ∙ part-distance x cw (l .i + 1) k (l .at + k) (second (l .i) k (l .at) (l .inv .2))) (c .before .before .nearer2 .ensures) in
-    let three =
-    one-more far (l .i + 2) (l .i + 3) (c .before .before .nearer2 .result) (c .before .nearer3 .result) (f .result .third) (omega arith) two
-    (f .ensures .to-third ∙ part-distance x cw (l .i + 2) k (l .at + k + k) (third (l .i) k (l .at) (l .inv .2))) (c .before .nearer3 .ensures) in
-    let four =
-    one-more far (l .i + 3) (l .i + 4) (c .before .nearer3 .result) (c .nearer4 .result) (f .result .fourth) (omega arith) three
-    (f .ensures .to-fourth ∙ part-distance x cw (l .i + 3) k (l .at + k + k + k) (fourth (l .i) k (l .at) (l .inv .2))) (c .nearer4 .ensures) in
-    (omega (arith, q .loop-test .taken), omega (arith, l .inv .1), next (l .i) k (l .at) (l .inv .2), four)
+    let f = c .before .before .before .before .four-distances in (
+      omega (arith, q .loop-test .taken),
+      omega (arith, l .inv .1),
+      next (l .i) k (l .at) (l .inv .2),
+      four-more (vectorOf (a .block .now)) (a .codewords .now) (l .i) k (l .at) (f .result) (l .best) (c .before .before .before .nearer .result) (c .before .before .nearer2 .result) (c .before .nearer3 .result) (c .nearer4 .result) (l .inv .2) (f .ensures) (l .inv .3)
+          (c .before .before .before .nearer .ensures) (c .before .before .nearer2 .ensures) (c .before .nearer3 .ensures) (c .nearer4 .ensures),
+    )
 
 returns : tie.Need-returns Inv-loop μ-loop
 returns c =

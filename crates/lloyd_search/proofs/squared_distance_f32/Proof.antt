@@ -8,6 +8,7 @@ use lib.Ieee.{ofBits}
 use borrow.Author.Needs.{needs}
 use Rattle.ieee.specs.Sum.{sumTo}
 use Rattle.lloyd_search.specs.Distance.{distance, vectorOf}
+use Rattle.lloyd_search.proofs.WidenLaw.{widens}
 use Rattle.lloyd_search.proofs.squared_distance_f32.Statement.{statement}
 use Rattle.lloyd_search.proofs.squared_distance_f32.Tie as tie
 
@@ -27,15 +28,17 @@ mul-delta c = search needs
 shared-slice-read-delta : tie.Need-shared-slice-read-delta Inv-loop μ-loop
 shared-slice-read-delta c = search needs
 
-mul-f32-to-f64-with-nan : tie.Need-mul-f32-to-f64-with-nan Inv-loop μ-loop
-mul-f32-to-f64-with-nan c = search needs
+mul-delta-2 : tie.Need-mul-delta-2 Inv-loop μ-loop
+mul-delta-2 c = search needs
 
-shared-slice-read-f32-to-f64-with-nan :
-    tie.Need-shared-slice-read-f32-to-f64-with-nan Inv-loop μ-loop
-shared-slice-read-f32-to-f64-with-nan c = search needs
+shared-slice-read-delta-2 : tie.Need-shared-slice-read-delta-2 Inv-loop μ-loop
+shared-slice-read-delta-2 c = search needs
 
-f32-to-f64-with-nan-requires : tie.Need-f32-to-f64-with-nan-requires Inv-loop μ-loop
-f32-to-f64-with-nan-requires c κs = tt
+float-to-float-delta : tie.Need-float-to-float-delta Inv-loop μ-loop
+float-to-float-delta c =
+    let l = c .before .before .before .before in
+    let s = l .before in
+    widens _ (c .row-known .given) (s .pre .1 (l .loop .j) (omega (arith, c .before .before .before .loop-test .taken, s .pre .0)))
 
 add-j : tie.Need-add-j Inv-loop μ-loop
 add-j c = search needs
@@ -47,11 +50,11 @@ loop-again : tie.Need-loop-again Inv-loop μ-loop
 unfolding sumTo
 loop-again c =
     let l = c .before .before .before .before in
-    (search needs, rw (add-one, c .f32-to-f64-with-nan .ensures, l .loop .inv .1))
+    (search needs, rw (add-one, l .loop .inv .1))
 
 returns : tie.Need-returns Inv-loop μ-loop
 returns c =
-    let a = c .before .before .before .before .args in
+    let a = c .before .before .args in
     let e : c .before .loop .j ≡ length (a .a .now) = omega arith in
     c .before .loop .inv .1 ∙ ap (λ (n : ℕ). distance n (vectorOf (a .a .now)) (vectorOf (a .b .now))) e
 
@@ -64,9 +67,9 @@ squared-distance-f32-spec =
     loop-holds
     mul-delta
     shared-slice-read-delta
-    mul-f32-to-f64-with-nan
-    shared-slice-read-f32-to-f64-with-nan
-    f32-to-f64-with-nan-requires
+    mul-delta-2
+    shared-slice-read-delta-2
+    float-to-float-delta
     add-j
     loop-less
     loop-again
