@@ -180,14 +180,4 @@ fn vectors(bench: &mut Bench) {
         || nuqtelya::check_codewords(&codewords, n, k),
         || codewords.len() == shape.n * shape.k && codewords.iter().all(|value| black_box(value).is_finite()),
     );
-    let samples = wide(&mut bench.random, 100 * shape.k);
-    let wide: Vec<f64> = codewords.iter().map(|value| f64::from(*value)).collect();
-    let published = lloyd::timed::Samples::new(&samples, shape.k);
-    pair(
-        bench,
-        "mean_error",
-        "k 16, N 4096, S 100",
-        || nuqtelya::mean_error(&wide, n, k, &samples),
-        || lloyd::timed::mean_error(&wide, shape.k, &published),
-    );
 }

@@ -12,6 +12,10 @@ pub fn rows(bench: &mut Bench, shape: &Shape) {
     let name = format!("k {}, N {}, S {}", shape.k, shape.n, shape.s);
     let (proved, rust) = nearest(shape, &data);
     bench.row("nearest", &format!("k {}, N {}", shape.k, shape.n), proved, rust);
+    // The same search over many samples, where the codewords are tested once.
+    let few = shape.s.min(1000);
+    let (proved, rust) = mean_error(shape, &data, few);
+    bench.row("mean error", &format!("k {}, N {}, S {few}", shape.k, shape.n), proved, rust);
     let (proved, rust) = update(shape, &data);
     bench.row("update", &name, proved, rust);
     // Rounds are all alike; at the largest shape one of them is long enough.
@@ -32,6 +36,14 @@ fn nearest<'a>(shape: &'a Shape, data: &'a Training) -> (Side<'a>, Side<'a>) {
         side(move || nuqtelya::nearest(&data.initial, n, k, ours.next().expect("a block"))),
         side(move || probe::nearest_index(theirs.next().expect("a block"), &data.initial, shape.k)),
     )
+}
+
+fn mean_error<'a>(shape: &'a Shape, data: &'a Training, few: usize) -> (Side<'a>, Side<'a>) {
+    let samples = &data.samples[..few * shape.k];
+    let published = timed::Samples::new(samples, shape.k);
+    let ours = || nuqtelya::mean_error(&data.initial, shape.n as u64, shape.k as u64, samples);
+    assert_eq!(ours().ok(), Some(timed::mean_error(&data.initial, shape.k, &published)));
+    (side(ours), side(move || timed::mean_error(&data.initial, shape.k, &published)))
 }
 
 fn update<'a>(shape: &'a Shape, data: &'a Training) -> (Side<'a>, Side<'a>) {
