@@ -42,12 +42,12 @@ pub const HEAD: &str =
     "| Entry point | Shape | Proved | Rust | Ratio | Middle half of the ratios | Rounds |\n|---|---|---|---|---|---|---|";
 
 const USAGE: &str =
-    "bench [--time MILLISECONDS]: time for each row (default 400); a row of long calls takes what it needs";
+    "bench [--time MILLISECONDS]: time for each row (default 1000); a row of long calls takes what it needs";
 
 fn main() {
     let words: Vec<String> = std::env::args().skip(1).collect();
     let millis = match words.iter().map(String::as_str).collect::<Vec<_>>()[..] {
-        [] => Some(400),
+        [] => Some(1000),
         ["--time", millis] => millis.parse().ok(),
         _ => None,
     };

@@ -5,7 +5,7 @@ use std::time::{Duration, Instant};
 
 /// A batch of calls takes at least this long, so that reading the clock does not count, and so that a side works from
 /// caches that hold its own matrix and codewords, as a server does that reads many codes.
-const BATCH: Duration = Duration::from_millis(10);
+const BATCH: Duration = Duration::from_millis(50);
 
 /// One side: makes so many calls and says how long they took.
 pub type Side<'a> = Box<dyn FnMut(u32) -> Duration + 'a>;
