@@ -10,20 +10,36 @@ pub type Whole<'a> = &'a mut [u64; 4];
 pub type Real<'a> = &'a mut [f64; 2];
 
 /// Calls an export with room for values, and takes its answer apart. `results` is how many whole and real values a
-/// completed call has.
+/// completed call has. It is inlined, since a short search takes hardly longer than a call.
+#[inline(always)]
 pub fn call(results: (usize, usize), export: impl FnOnce(Whole, Real) -> u32) -> Result<([u64; 4], [f64; 2]), Refusal> {
     let mut whole = [u64::MAX; 4];
     let mut real = [f64::NAN; 2];
     let number = export(&mut whole, &mut real);
-    let (wholes, reals) = if number == 0 { results } else { Refusal::row(number, whole[0]) };
-    if whole[wholes..].iter().any(|v| *v != 0) || real[reals..].iter().any(|v| v.to_bits() != 0) {
-        return Err(Refusal::FOREIGN);
+    if number != 0 {
+        return Err(refused(number, whole, real));
     }
-    if number == 0 {
+    if no_more(results, &whole, &real) {
         Ok((whole, real))
     } else {
-        Err(Refusal::new(number, whole, real))
+        Err(Refusal::FOREIGN)
     }
+}
+
+/// The refusal of this number, with the values of its row.
+#[cold]
+fn refused(number: u32, whole: [u64; 4], real: [f64; 2]) -> Refusal {
+    if no_more(Refusal::row(number, whole[0]), &whole, &real) {
+        Refusal::new(number, whole, real)
+    } else {
+        Refusal::FOREIGN
+    }
+}
+
+/// Whether zeros follow so many whole and real values.
+#[inline(always)]
+fn no_more((wholes, reals): (usize, usize), whole: &[u64; 4], real: &[f64; 2]) -> bool {
+    whole[wholes..].iter().all(|v| *v == 0) && real[reals..].iter().all(|v| v.to_bits() == 0)
 }
 
 /// The same for an export whose result is no number.

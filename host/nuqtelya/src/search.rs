@@ -36,6 +36,7 @@ pub struct Nearest {
 }
 
 /// Searches N codewords of k values for the nearest to a block of k values.
+#[inline]
 pub fn nearest(codewords: &[f64], codebook_size: u64, block_dim: u64, block: &[f64]) -> Result<Nearest, Refusal> {
     let (whole, real) = call((1, 1), |whole, real| unsafe {
         fib_nearest(
