@@ -1,7 +1,7 @@
 //! Inputs of a shape, for both sides.
 
 use oracle::inputs::Random;
-use oracle::profile::probe::{Profile as Published, ROTATION_ALGORITHM, SCHEMA};
+use oracle::profile::probe::{paper_default, Profile as Published};
 
 pub struct Shape {
     pub d: usize,
@@ -18,30 +18,9 @@ impl Shape {
 
     /// The profile on both sides, with these restarts and rounds.
     pub fn profiles(&self, restarts: u32, iterations: u32) -> (nuqtelya::Profile<'static>, Published<'static>) {
-        let default = nuqtelya::Profile::paper_default(self.d as u64, self.k as u64, self.n as u64, 7);
-        let p =
-            nuqtelya::Profile { restarts, iterations, training_samples: self.s as u32, ..default.expect("a profile") };
-        let published = Published {
-            schema: SCHEMA,
-            ambient_dim: p.ambient_dim,
-            block_dim: p.block_dim,
-            codebook_size: p.codebook_size,
-            paper_rate: p.paper_rate,
-            wire_index_bits: p.wire_index_bits,
-            wire_rate: p.wire_rate,
-            norm_format: p.norm_format,
-            rotation_seed: p.rotation_seed,
-            rotation_algorithm: ROTATION_ALGORITHM,
-            codebook_seed: p.codebook_seed,
-            source_mode: p.source_mode,
-            radius_method: p.radius_method,
-            direction_method: p.direction_method,
-            restarts: p.restarts,
-            iterations: p.iterations,
-            training_samples: p.training_samples,
-            empty_cell_policy: p.empty_cell_policy,
-        };
-        (p, published)
+        let default = paper_default(self.d as u64, self.k as u64, self.n as u64, 7).expect("a profile");
+        let published = Published { restarts, iterations, training_samples: self.s as u32, ..default };
+        (beside::profile(&published, oracle::log2(self.n as u64)), published)
     }
 }
 

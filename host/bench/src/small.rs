@@ -3,7 +3,7 @@
 use crate::data::{narrow, wide, Shape};
 use crate::measure::{side, Side};
 use crate::Bench;
-use nuqtelya::{Frame, Report, REPORT_SCHEMA};
+use nuqtelya::{Frame, REPORT_SCHEMA};
 use oracle::lloyd::probe::Report as PublishedReport;
 use oracle::{bitpack, codebook, codec, f16, lloyd, metrics, profile, rotation};
 use std::hint::black_box;
@@ -66,7 +66,8 @@ fn profiles(bench: &mut Bench) {
         || profile::FibQuantProfileV1::paper_default(1024, 16, n() as usize, 7).is_ok(),
     );
     pair(bench, "Profile::validate", "", || black_box(&ours).validate(), || black_box(&published).validate().is_ok());
-    let report = Report {
+    let published_report = PublishedReport {
+        schema_version: String::from_utf8_lossy(REPORT_SCHEMA).into_owned(),
         restarts: ours.restarts,
         iterations: ours.iterations,
         training_samples: ours.training_samples,
@@ -74,21 +75,10 @@ fn profiles(bench: &mut Bench) {
         best_mse: 1.0,
         best_restart: 0,
         empty_cells_repaired: 0,
-        events_used: 0,
+        repair_events: Vec::new(),
         seed: ours.codebook_seed,
     };
-    let published_report = PublishedReport {
-        schema_version: String::from_utf8_lossy(REPORT_SCHEMA).into_owned(),
-        restarts: report.restarts,
-        iterations: report.iterations,
-        training_samples: report.training_samples,
-        init_mse: report.init_mse,
-        best_mse: report.best_mse,
-        best_restart: report.best_restart,
-        empty_cells_repaired: 0,
-        repair_events: Vec::new(),
-        seed: report.seed,
-    };
+    let report = beside::report(&published_report);
     pair(
         bench,
         "Report::validate",

@@ -4,7 +4,6 @@
 //! first difference with its inputs, and then the run ends with status 1.
 
 mod areas;
-mod proved;
 mod rules;
 mod run;
 

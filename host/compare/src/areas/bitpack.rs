@@ -1,8 +1,8 @@
 //! Packing and unpacking of indices.
 
 use crate::inputs;
-use crate::proved::proved;
 use crate::run::{lent, refused, with_buffer, Outcome, Run};
+use beside::proved;
 use oracle::bitpack::probe;
 
 pub fn run(run: &mut Run) -> Outcome {

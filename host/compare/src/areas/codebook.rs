@@ -1,9 +1,9 @@
 //! Codewords as they are stored, and the check of them.
 
 use crate::inputs;
-use crate::proved::proved;
 use crate::rules::{length, shaped, SHAPES};
 use crate::run::{lent, refused, with_buffer, Outcome, Run};
+use beside::proved;
 use oracle::codebook::probe;
 use oracle::inputs::fitting;
 use oracle::Answer;

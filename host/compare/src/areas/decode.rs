@@ -3,9 +3,9 @@
 use super::codes::{faulty, largest, Setup, FAULTS};
 use super::profile::{published, validity};
 use crate::inputs;
-use crate::proved::{self, proved};
 use crate::rules::length;
 use crate::run::{lent, Outcome, Run};
+use beside::proved;
 use oracle::bitpack::probe::pack_indices;
 use oracle::codec::probe;
 use oracle::inputs::{fitting, Random};
@@ -173,7 +173,7 @@ fn case(run: &mut Run, setup: &Setup, bytes: &[u8], output_len: usize, work_len:
         Err(refusal) => (Err(refusal), (lent(output_len), lent(work_len))),
     };
     let Setup { profile, log2, matrix, codewords } = setup;
-    let given = proved::profile(profile, *log2);
+    let given = beside::profile(profile, *log2);
     let (mut output, mut work) = (lent(output_len), lent(work_len));
     let answer = proved(nuqtelya::decode(&given, matrix, codewords, bytes, &mut output, &mut work));
     let shown = inputs!(profile, log2, matrix, codewords, bytes, output_len, work_len);

@@ -3,9 +3,9 @@
 use super::codes::{faulty, largest, Setup, FAULTS};
 use super::profile::{published, validity};
 use crate::inputs;
-use crate::proved::{self, proved};
 use crate::rules::{grid, length};
 use crate::run::{lent, Outcome, Run};
+use beside::proved;
 use oracle::codec::probe;
 use oracle::inputs::Random;
 use oracle::Answer;
@@ -128,7 +128,7 @@ fn case(run: &mut Run, setup: &Setup, input: &[f32], output_len: usize, work_len
         Err(refusal) => (Err(refusal), (lent(output_len), lent(work_len))),
     };
     let Setup { profile, log2, matrix, codewords } = setup;
-    let given = proved::profile(profile, *log2);
+    let given = beside::profile(profile, *log2);
     let (mut output, mut work) = (lent(output_len), lent(work_len));
     let answer = proved(nuqtelya::encode(&given, matrix, codewords, input, &mut output, &mut work));
     let shown = inputs!(profile, log2, matrix, codewords, input, output_len, work_len);

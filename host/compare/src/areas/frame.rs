@@ -1,8 +1,8 @@
 //! Compact frames, written and parsed.
 
 use crate::inputs;
-use crate::proved::{self, proved};
 use crate::run::{lent, refused, with_buffer, Outcome, Run, Same};
+use beside::proved;
 use oracle::codec::probe::{self, Frame};
 use oracle::inputs::fitting;
 
@@ -126,7 +126,7 @@ fn write(run: &mut Run, width: u8, count: u32, norm: &[u8], indices: &[u8]) -> O
 fn parse(run: &mut Run, bytes: &[u8]) -> Outcome {
     // The profile is tested after the frame and is a good one.
     let expected = probe::from_compact_bytes(bytes, &fitting(8, 4, 4));
-    run.same("parse_frame", &expected, &proved::parse_frame(bytes), inputs!(bytes))
+    run.same("parse_frame", &expected, &beside::parse_frame(bytes), inputs!(bytes))
 }
 
 impl Same for Frame {

@@ -1,8 +1,8 @@
 //! The mean squared error of two vectors.
 
 use crate::inputs;
-use crate::proved::proved;
 use crate::run::{Outcome, Run};
+use beside::proved;
 use oracle::metrics::probe;
 
 pub fn run(run: &mut Run) -> Outcome {

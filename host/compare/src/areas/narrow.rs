@@ -1,8 +1,8 @@
 //! Narrowing against the processor (binary64 to binary32) and the oracle's binary16, and widening from binary16.
 
 use crate::inputs;
-use crate::proved::proved;
 use crate::run::{Outcome, Run};
+use beside::proved;
 use oracle::f16;
 use std::ops::RangeInclusive;
 

@@ -1,8 +1,8 @@
 //! Norms, encoded and decoded.
 
 use crate::inputs;
-use crate::proved::proved;
 use crate::run::{Outcome, Run};
+use beside::proved;
 use oracle::codec::probe;
 use oracle::f16;
 

@@ -1,8 +1,8 @@
 //! The profile's checks, its default, and the numbers worked out from it.
 
 use crate::inputs;
-use crate::proved::{self, proved};
 use crate::run::{refused, Outcome, Run, Same};
+use beside::proved;
 use oracle::inputs::fitting;
 use oracle::profile::probe::{self, Profile, ROTATION_ALGORITHM, SCHEMA};
 use oracle::{Answer, Value};
@@ -232,7 +232,7 @@ fn code_case(run: &mut Run, given: &Profile, published: &Profile, log2: f64) -> 
     run.same(
         "validate",
         &validity(published, log2),
-        &proved(proved::profile(given, log2).validate()),
+        &proved(beside::profile(given, log2).validate()),
         inputs!(given, log2),
     )
 }
@@ -262,7 +262,7 @@ fn random(run: &mut Run) -> Outcome {
 
 fn validate(run: &mut Run, profile: &Profile, log2: f64) -> Outcome {
     let expected = validity(profile, log2);
-    run.same("validate", &expected, &proved(proved::profile(profile, log2).validate()), inputs!(profile, log2))
+    run.same("validate", &expected, &proved(beside::profile(profile, log2).validate()), inputs!(profile, log2))
 }
 
 /// The published answer where log2 is the library's own. With another, field 6 is tested against it here, and the fields
@@ -308,7 +308,7 @@ fn default(run: &mut Run, d: u64, k: u64, n: u64, log2: f64, seed: u64) -> Outco
             expected = Err((6, vec![Value::Whole(6), Value::Real(rate), Value::Real(rate)]));
         }
     }
-    let proved = proved::paper_default(d, k, n, log2, seed);
+    let proved = beside::paper_default(d, k, n, log2, seed);
     run.same("paper_default", &expected, &proved, inputs!(d, k, n, log2, seed))
 }
 

@@ -3,9 +3,9 @@
 use super::profile::{published, validity};
 use super::training::{Left, Lent};
 use crate::inputs;
-use crate::proved::{self, event, proved};
 use crate::rules::{bounded, edges, grid, length, samples, shorten, values, with_slots};
 use crate::run::{lent, Outcome, Run, Same};
+use beside::{event, proved};
 use nuqtelya::Report;
 use oracle::inputs::fitting;
 use oracle::lloyd::probe;
@@ -236,7 +236,7 @@ fn leaves(job: &Job) -> Left<Report, f32> {
     let mut words = lent(job.codewords);
     let (mut work, mut counts, mut events) = (lent(work), lent(counts), lent(slots));
     let answer = nuqtelya::refine(
-        &proved::profile(&job.profile, job.log2),
+        &beside::profile(&job.profile, job.log2),
         &job.initial,
         &job.samples,
         &job.matrices,
@@ -257,7 +257,7 @@ fn expected(job: &Job) -> Left<Report, f32> {
     match with_slots(attempt, |done| done.report.empty_cells_repaired, job.lent.slots) {
         Ok(done) => {
             let events = done.report.repair_events.iter().map(event).collect();
-            job.lent.completed(proved::report(&done.report), done.codewords, events)
+            job.lent.completed(beside::report(&done.report), done.codewords, events)
         }
         Err(refusal) => job.lent.zeroed(refusal, lent(job.codewords)),
     }
@@ -319,8 +319,8 @@ fn reports(run: &mut Run) -> Outcome {
                 first(&mut report);
                 second(&mut report);
                 let expected = probe::validate_report(&report, &profile);
-                let given = proved::profile(&profile, 1.0);
-                let found = proved::report(&report).validate(report.schema_version.as_bytes(), &given);
+                let given = beside::profile(&profile, 1.0);
+                let found = beside::report(&report).validate(report.schema_version.as_bytes(), &given);
                 run.same("validate_report", &expected, &proved(found), || format!("\n  {report:?}\n  {profile:?}"))?;
             }
         }

@@ -1,8 +1,8 @@
 //! The square root against the processor.
 
 use crate::inputs;
-use crate::proved::proved;
 use crate::run::{Outcome, Run};
+use beside::proved;
 
 pub fn run(run: &mut Run) -> Outcome {
     // Every sign and exponent, with fractions at both ends and in the middle.

@@ -1,8 +1,8 @@
 //! Rotation by a lent matrix and back.
 
 use crate::inputs;
-use crate::proved::proved;
 use crate::run::{lent, refused, with_buffer, Outcome, Run};
+use beside::proved;
 use oracle::rotation::probe;
 use oracle::Answer;
 

@@ -1,9 +1,9 @@
 //! The search for the nearest codeword, and the mean error of a codebook.
 
 use crate::inputs;
-use crate::proved::proved;
 use crate::rules::{bounded, edges, grid, length, samples, shaped, values, whole_samples, SHAPES};
 use crate::run::{refused, Outcome, Run};
+use beside::proved;
 use oracle::lloyd::probe;
 use oracle::Answer;
 

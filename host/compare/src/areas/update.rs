@@ -2,9 +2,9 @@
 
 use super::training::{Left, Lent};
 use crate::inputs;
-use crate::proved::{event, proved};
 use crate::rules::{bounded, edges, grid, length, samples, shaped, shorten, values, whole_samples, with_slots, SHAPES};
 use crate::run::{lent, refused, Outcome, Pattern, Run};
+use beside::{event, proved};
 use nuqtelya::{Event, UpdateTerms};
 use oracle::lloyd::probe;
 use oracle::Answer;
