@@ -22,6 +22,7 @@ pub fn run(run: &mut Run) -> Outcome {
     }
     wrong_shapes(run)?;
     wrong_values(run)?;
+    far(run)?;
     largest(run)?;
     run.met(&[1, 7, 18], &[])
 }
@@ -103,6 +104,29 @@ fn wrong_values(run: &mut Run) -> Outcome {
                 mean_error(run, codewords, n as u64, k as u64, samples)?;
             }
         }
+    }
+    Ok(())
+}
+
+/// Sizes up to just above the limit, NaN and infinities, mixed: where the distances alone no longer tell whether every
+/// codeword is within its limit.
+fn far(run: &mut Run) -> Outcome {
+    let sizes = [0.0, 1.0, LIMIT / 16.0, LIMIT / 8.0, LIMIT / 4.0, LIMIT / 2.0, (LIMIT / 2.0).next_up(), LIMIT];
+    let mut all: Vec<f64> = sizes.iter().flat_map(|size| [*size, -size]).collect();
+    let within = all.len();
+    all.extend(edges(LIMIT));
+    all.extend([1e200, -1e200, f64::MAX]);
+    for _ in 0..run.rounds(10_000) {
+        let (n, k) = (1 + run.random.index(9), 1 + run.random.index(3));
+        // All but two of the values are within.
+        let mut both: Vec<f64> = (0..(n + 1) * k).map(|_| run.random.pick(&all[..within])).collect();
+        for _ in 0..2 {
+            let place = run.random.index(both.len());
+            both[place] = run.random.pick(&all);
+        }
+        let (codewords, block) = both.split_at(n * k);
+        nearest(run, codewords, n as u64, k as u64, block)?;
+        mean_error(run, codewords, n as u64, k as u64, block)?;
     }
     Ok(())
 }
