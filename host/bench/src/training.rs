@@ -1,6 +1,6 @@
 //! Nearest, mean error, update and whole refinements.
 
-use crate::data::{Shape, Training};
+use crate::data::{wide, Shape, Training};
 use crate::measure::{prepared, side, Side};
 use crate::Bench;
 use nuqtelya::{Event, UpdateTerms, SPLIT_HIGHEST_DISTORTION};
@@ -10,7 +10,8 @@ use std::time::Duration;
 pub fn rows(bench: &mut Bench, shape: &Shape) {
     let data = Training::new(shape, &mut bench.random);
     let name = format!("k {}, N {}, S {}", shape.k, shape.n, shape.s);
-    let (proved, rust) = nearest(shape, &data);
+    let blocks = wide(&mut bench.random, BLOCKS * shape.k);
+    let (proved, rust) = nearest(shape, &data, &blocks);
     bench.row("nearest", &format!("k {}, N {}", shape.k, shape.n), proved, rust);
     // The same search over many samples, where the codewords are tested once.
     let few = shape.s.min(1000);
@@ -24,11 +25,14 @@ pub fn rows(bench: &mut Bench, shape: &Shape) {
     bench.row("refine", &format!("{name}, R 1, I {iterations}"), proved, rust);
 }
 
-fn nearest<'a>(shape: &'a Shape, data: &'a Training) -> (Side<'a>, Side<'a>) {
-    let blocks = || data.samples.chunks_exact(shape.k).cycle();
-    let (mut ours, mut theirs) = (blocks(), blocks());
+/// Many blocks, so that the processor doesn't learn by heart how each search goes.
+const BLOCKS: usize = 16_384;
+
+fn nearest<'a>(shape: &'a Shape, data: &'a Training, blocks: &'a [f64]) -> (Side<'a>, Side<'a>) {
+    let each = || blocks.chunks_exact(shape.k).cycle();
+    let (mut ours, mut theirs) = (each(), each());
     let (n, k) = (shape.n as u64, shape.k as u64);
-    for block in data.samples.chunks_exact(shape.k).take(20) {
+    for block in each().take(20) {
         let found = nuqtelya::nearest(&data.initial, n, k, block).expect("a codeword");
         assert_eq!((found.index.into(), found.distance), probe::nearest_index(block, &data.initial, shape.k));
     }
