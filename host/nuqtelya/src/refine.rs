@@ -146,7 +146,8 @@ pub struct Trained {
     pub events: Vec<Event>,
 }
 
-/// [`refine`] with buffers of its own; `event_slots` is the number of repairs at which the training is refused (19).
+/// [`refine`] with buffers of its own; `event_slots` is the number of repairs that it has room for, and one more is
+/// refused (19).
 pub fn train(
     profile: &Profile,
     initial: &[f64],
@@ -156,13 +157,17 @@ pub fn train(
 ) -> Result<Trained, Refusal> {
     // Only a profile that fits bounds the lengths below.
     profile.validate()?;
-    let n = profile.codebook_size as usize;
-    let values = n * profile.block_dim as usize;
-    let mut codewords = vec![0.0; values];
-    let mut work = vec![0.0; 4 * values + 2 * n];
-    let mut counts = vec![0; n + profile.training_samples as usize];
+    let (n, k) = (profile.codebook_size as usize, profile.block_dim as usize);
+    let (count, restarts) = (profile.training_samples as usize, profile.restarts as usize);
+    // A profile alone can ask for gigabytes, so there is room only beside slices of the right lengths. Others are
+    // refused by their own numbers, since they come before the buffers.
+    let fit = [initial.len(), samples.len(), matrices.len()] == [n * k, count * k, (restarts - 1) * k * k];
+    let room = |len: usize| if fit { len } else { 0 };
+    let mut codewords = vec![0.0; room(n * k)];
+    let mut work = vec![0.0; room(4 * n * k + 2 * n)];
+    let mut counts = vec![0; room(n + count)];
     // More slots than can be lent are refused all the same.
-    let mut events = vec![Event::default(); event_slots.min(MAX_EVENT_SLOTS + 1)];
+    let mut events = vec![Event::default(); room(event_slots.min(MAX_EVENT_SLOTS + 1))];
     let report = refine(profile, initial, samples, matrices, &mut codewords, &mut work, &mut counts, &mut events)?;
     events.truncate(report.events_used as usize);
     Ok(Trained { codewords, report, events })

@@ -35,7 +35,8 @@ impl Refusal {
         }
     }
 
-    /// The number in document 01's table, 1 to 20.
+    /// The number in document 01's table, 1 to 20; or `u32::MAX`, if the answer is none that the table has: then the
+    /// library that was linked is not the one that these functions are written for.
     pub fn number(&self) -> u32 {
         self.number
     }

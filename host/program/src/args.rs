@@ -3,6 +3,7 @@
 use crate::failure::{Done, Failure};
 use std::collections::{BTreeMap, BTreeSet};
 use std::ffi::OsString;
+use std::os::unix::ffi::{OsStrExt, OsStringExt};
 use std::path::PathBuf;
 use std::str::FromStr;
 
@@ -24,18 +25,18 @@ impl Args {
         let mut args = Args { values: BTreeMap::new(), flags: BTreeSet::new(), plain: Vec::new() };
         let mut words = words.into_iter();
         while let Some(word) = words.next() {
-            let text = word.to_string_lossy().into_owned();
-            let Some(text) = text.strip_prefix("--") else {
+            let Some(option) = word.as_bytes().strip_prefix(b"--") else {
                 if args.plain.len() == plain {
-                    return Err(Failure::Usage(format!("one word too many: {text}")));
+                    return Err(Failure::Usage(format!("one word too many: {}", word.to_string_lossy())));
                 }
                 args.plain.push(word);
                 continue;
             };
-            let (name, joined) = match text.split_once('=') {
-                Some((name, value)) => (name, Some(OsString::from(value))),
-                None => (text, None),
+            let (name, joined) = match option.iter().position(|byte| *byte == b'=') {
+                Some(at) => (&option[..at], Some(OsString::from_vec(option[at + 1..].to_vec()))),
+                None => (option, None),
             };
+            let name = String::from_utf8_lossy(name);
             if let Some(flag) = flags.iter().find(|flag| **flag == name) {
                 if joined.is_some() {
                     return Err(Failure::Usage(format!("--{name} takes no value")));

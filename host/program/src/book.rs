@@ -3,7 +3,10 @@
 use crate::failure::{Done, Failure};
 use crate::files::{Input, Output};
 use crate::rotation::{self, Rule};
-use nuqtelya::{Event, Profile, Report, MAX_EVENT_SLOTS, PROFILE_SCHEMA, REPORT_SCHEMA, ROTATION_ALGORITHM};
+use nuqtelya::{
+    check_codewords, Event, Profile, Report, MAX_EVENT_SLOTS, PROFILE_SCHEMA, REPORT_SCHEMA, ROTATION_ALGORITHM,
+};
+use std::fmt::Display;
 use std::path::Path;
 
 pub const MAGIC: [u8; 8] = *b"NUQTBOOK";
@@ -101,7 +104,10 @@ impl Book {
         let profile = read_profile(&mut file)?;
         let report = read_report(&mut file, &profile)?;
         let [samples, start, matrices, rule] = file.array()?;
-        let made = Made { samples: samples != 0, start: start != 0, matrices: matrices != 0 };
+        for (part, origin) in [("samples", samples), ("start", start), ("restart matrices", matrices)] {
+            below(path, format_args!("the origin of its {part}"), origin.into(), 2)?;
+        }
+        let made = Made { samples: samples == 1, start: start == 1, matrices: matrices == 1 };
         let dim = profile.ambient_dim as usize;
         let rule = match rule {
             0 => Rule::Stored,
@@ -114,7 +120,7 @@ impl Book {
         let matrix_len = if rule == Rule::Stored { dim * dim } else { 0 };
         let rest = u64::from(report.events_used) * EVENT_LEN + 4 * values as u64 + 8 * matrix_len as u64 + 8;
         file.file.exactly(file.read + rest, "a codebook with this head")?;
-        let events = (0..report.events_used).map(|_| read_event(&mut file)).collect::<Done<_>>()?;
+        let events = (0..report.events_used).map(|_| read_event(&mut file)).collect::<Done<Vec<_>>>()?;
         let mut codewords = vec![0.0; values];
         for value in &mut codewords {
             *value = f32::from_le_bytes(file.array()?);
@@ -127,6 +133,9 @@ impl Book {
         if file.u64()? != sum {
             return Err(bad("is damaged: its check sum is another"));
         }
+        check_events(path, &events, &profile)?;
+        check_codewords(&codewords, profile.codebook_size.into(), profile.block_dim.into())
+            .map_err(Failure::refused(format!("{}: its codewords", path.display())))?;
         if rule != Rule::Stored {
             matrix = rotation::rotation(dim, profile.rotation_seed);
         }
@@ -169,9 +178,11 @@ fn read_profile(file: &mut Summed<Input>) -> Done<Profile<'static>> {
         empty_cell_policy,
     };
     // The names that were read are tested, and only the accepted ones pass.
-    let path = file.file.path().display().to_string();
+    let path = file.file.path();
     let named = Profile { schema: &schema, rotation_algorithm: &rotation_algorithm, ..profile };
-    named.validate().map_err(Failure::refused(format!("{path}: its profile")))?;
+    named.validate().map_err(Failure::refused(format!("{}: its profile", path.display())))?;
+    // The library reads any other number as to fail closed; a training is given one of these two.
+    below(path, "its policy for empty cells", empty_cell_policy.into(), 2)?;
     Ok(profile)
 }
 
@@ -188,10 +199,11 @@ fn read_report(file: &mut Summed<Input>, profile: &Profile) -> Done<Report> {
         events_used: file.u32()?,
         seed: file.u64()?,
     };
-    let path = file.file.path().display().to_string();
-    report.validate(&schema, profile).map_err(Failure::refused(format!("{path}: its report")))?;
+    let path = file.file.path();
+    report.validate(&schema, profile).map_err(Failure::refused(format!("{}: its report", path.display())))?;
+    below(path, "its best restart", report.best_restart, report.restarts)?;
     if report.events_used as usize > MAX_EVENT_SLOTS {
-        return Err(Failure::file(file.file.path(), "has more repairs than a training can"));
+        return Err(Failure::file(path, "has more repairs than a training can"));
     }
     Ok(report)
 }
@@ -207,6 +219,29 @@ fn read_event(file: &mut Summed<Input>) -> Done<Event> {
         residual_norm: file.f64()?,
         split_epsilon: file.f64()?,
     })
+}
+
+/// Tests the numbers that a training takes from the profile.
+fn check_events(path: &Path, events: &[Event], p: &Profile) -> Done<()> {
+    for (place, event) in events.iter().enumerate() {
+        for (what, number, bound) in [
+            ("restart", event.restart, p.restarts),
+            ("round", event.iteration, p.iterations),
+            ("empty cell", event.empty_cell, p.codebook_size),
+            ("donor", event.donor_cell, p.codebook_size),
+        ] {
+            below(path, format_args!("the {what} of event {place}"), number, bound)?;
+        }
+    }
+    Ok(())
+}
+
+/// Refuses a number that no training writes; `what` says where it stands.
+fn below(path: &Path, what: impl Display, number: u32, bound: u32) -> Done<()> {
+    if number < bound {
+        return Ok(());
+    }
+    Err(Failure::file(path, format!("{what} is {number}, not below {bound}")))
 }
 
 /// The check sum at the end of the file: FNV-1a of 64 bits over all bytes before it.

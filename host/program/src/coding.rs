@@ -16,10 +16,12 @@ const SHARE: usize = 64;
 pub fn encode_command(words: impl IntoIterator<Item = OsString>) -> Done<()> {
     let args = Args::parse(words, &["codebook", "vectors", "out"], &[], 0)?;
     let (book, vectors, out) = (args.needed_path("codebook")?, args.needed_path("vectors")?, args.needed_path("out")?);
-    let (count, size) = encode(&Book::read(&book)?, &vectors, &out)?;
-    let vector = Input::open(&vectors)?.len() / count;
+    Output::apart(&out, &[&book, &vectors])?;
+    let book = Book::read(&book)?;
+    let (count, size) = encode(&book, &vectors, &out)?;
     say(&format!(
-        "{count} vectors of {vector} bytes became codes of {size} bytes: {} in {}\n",
+        "{count} vectors of {} bytes became codes of {size} bytes: {} in {}\n",
+        4 * book.profile.ambient_dim,
         memory::size(count * size),
         out.display()
     ))
@@ -28,6 +30,7 @@ pub fn encode_command(words: impl IntoIterator<Item = OsString>) -> Done<()> {
 pub fn decode_command(words: impl IntoIterator<Item = OsString>) -> Done<()> {
     let args = Args::parse(words, &["codebook", "codes", "out"], &[], 0)?;
     let (book, codes, out) = (args.needed_path("codebook")?, args.needed_path("codes")?, args.needed_path("out")?);
+    Output::apart(&out, &[&book, &codes])?;
     let (count, size) = decode(&Book::read(&book)?, &codes, &out)?;
     say(&format!("{count} codes became vectors of {size} bytes: {} in {}\n", memory::size(count * size), out.display()))
 }

@@ -3,6 +3,7 @@
 use crate::failure::{Done, Failure};
 use std::fs::{self, File};
 use std::io::{BufReader, BufWriter, ErrorKind, Read, Write};
+use std::os::unix::fs::MetadataExt;
 use std::path::{Path, PathBuf};
 
 /// Bytes that are held beside the buffer that values are read into.
@@ -17,13 +18,15 @@ pub struct Input {
 
 impl Input {
     pub fn open(path: &Path) -> Done<Input> {
-        let file = File::open(path).map_err(|error| Failure::io(path, "opened", &error))?;
-        let metadata = file.metadata().map_err(|error| Failure::io(path, "read", &error))?;
-        // A length is needed beforehand, and a pipe has none.
+        let metadata = fs::metadata(path).map_err(|error| Failure::io(path, "opened", &error))?;
+        // A length is needed beforehand, and a pipe has none. Merely to open one could wait for ever.
         if !metadata.is_file() {
             return Err(Failure::file(path, "is not a plain file"));
         }
-        Ok(Input { path: path.into(), file: BufReader::with_capacity(PIECE, file), len: metadata.len() })
+        let file = File::open(path).map_err(|error| Failure::io(path, "opened", &error))?;
+        // Of the file that was opened, should there be another by now.
+        let len = file.metadata().map_err(|error| Failure::io(path, "read", &error))?.len();
+        Ok(Input { path: path.into(), file: BufReader::with_capacity(PIECE, file), len })
     }
 
     pub fn path(&self) -> &Path {
@@ -113,6 +116,18 @@ impl Output {
         let part = target.with_file_name(part);
         let file = File::create(&part).map_err(|error| Failure::io(&target, "written", &error))?;
         Ok(Output { target, part, file: BufWriter::with_capacity(PIECE, file), named: false })
+    }
+
+    /// Refuses a target that is an input: it would take the place of what it is made from.
+    pub fn apart(target: &Path, inputs: &[&Path]) -> Done<()> {
+        // The system's own number of a file, the same by whatever path or link.
+        let number = |path: &Path| fs::metadata(path).ok().map(|file| (file.dev(), file.ino()));
+        // A target that is not there yet is none of the inputs.
+        let Some(own) = number(target) else { return Ok(()) };
+        match inputs.iter().find(|input| number(input) == Some(own)) {
+            Some(input) => Err(Failure::file(target, format!("is the same file as the input {}", input.display()))),
+            None => Ok(()),
+        }
     }
 
     /// Whether the file could be created; for before long work.

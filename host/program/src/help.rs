@@ -21,7 +21,8 @@ nuqtelya: a vector quantiser whose training, writing and reading are proved
   nuqtelya demo      all of it, on data that it makes itself
 
 Each has its own --help. docs/FILES.md has the layout of every file and the rules by which what is not handed in is
-made. An output gets its name when it is complete: a run that fails or is stopped leaves the old file, or none.
+made. An output gets its name when it is complete: a run that fails or is stopped leaves the old file, or none. It
+cannot be one of the run's inputs.
 
 Exit codes: 0 done; 1 refused, by a number of the library that is shown with its meaning; 2 wrong use; 3 a file is
 missing, has the wrong length or content, or cannot be written; 4 too little memory.
@@ -38,7 +39,8 @@ Trains N codewords of K values on blocks of vectors of D values, and writes them
   --vectors FILE        binary32 values, vector after vector: the samples are made from them
   --samples FILE        binary64 values, K for each sample: used whole, as they are
   --out FILE            the codebook
-  --training-samples S  samples to make from vectors, from N to 10000000 (default: 30 × N, at least 256)
+  --training-samples S  samples to make from vectors, from N to 10000000
+                        (default: 30 × N, at least 256 and at most 10000000)
   --start FILE          N × K binary64 values: the starting codebook
   --matrices FILE       (R - 1) × K × K binary64 values: what the start is multiplied by in the restarts after the first
   --rotation FILE       D × D binary64 values, row by row: what a vector is multiplied by before it is cut in blocks
@@ -76,7 +78,7 @@ nuqtelya inspect FILE [--codebook FILE] [--repairs] [--values]
 Shows a codebook's shape, how it was trained, its report and repairs; or, of a file of codes, the head of the first and,
 with its codebook, whether all can be read.
 
-  --codebook FILE  the codebook of a file of codes
+  --codebook FILE  the codebook of a file of codes: whatever is no codebook itself is then read as codes of it
   --repairs        all repairs and not only the first ten
   --values         the codewords
 ";

@@ -25,10 +25,12 @@ pub fn command(words: impl IntoIterator<Item = OsString>) -> Done<()> {
     if len >= 8 {
         input.bytes(&mut head)?;
     }
+    let book = args.path("codebook");
     if head == MAGIC {
         codebook(&path, args.flag("repairs"), args.flag("values"))
-    } else if head.starts_with(b"FB1") {
-        codes(&path, args.path("codebook").as_deref())
+    } else if book.is_some() || head.starts_with(b"FB1") {
+        // Who names a codebook has codes, and what does not begin as they do is damaged.
+        codes(&path, book.as_deref())
     } else {
         say(&format!(
             "{}: plain values: {}, or {}\n",

@@ -10,7 +10,7 @@ use crate::progress::while_waiting;
 use crate::{report, say};
 use nuqtelya::{Event, Profile, FAIL_CLOSED, MAX_EVENT_SLOTS, SPLIT_HIGHEST_DISTORTION};
 use std::ffi::OsString;
-use std::path::PathBuf;
+use std::path::{Path, PathBuf};
 use std::time::{Duration, Instant};
 
 /// What is trained on: vectors, from which samples are made, or the samples themselves.
@@ -50,6 +50,7 @@ pub fn command(words: impl IntoIterator<Item = OsString>) -> Done<()> {
     let args = Args::parse(words, &options, &["anyway"], 0)?;
     let out = args.needed_path("out")?;
     let job = Job::from_args(&args)?;
+    Output::apart(&out, &job.files())?;
     Output::check(&out)?;
     let book = job.run()?;
     book.write(&out)?;
@@ -84,6 +85,13 @@ impl Job {
             event_slots: args.number("event-slots")?,
             anyway: args.flag("anyway"),
         })
+    }
+
+    /// All files that are read.
+    fn files(&self) -> Vec<&Path> {
+        let (Source::Vectors(source) | Source::Samples(source)) = &self.source;
+        let given = [&self.start, &self.matrices, &self.rotation].into_iter().flatten();
+        given.chain([source]).map(PathBuf::as_path).collect()
     }
 
     /// Every length is tested and the need of memory told before anything large is read.

@@ -1,8 +1,11 @@
 //! The program with the files that users have: whole ones, and all kinds of others.
 
+use std::ffi::{OsStr, OsString};
 use std::fs;
+use std::os::unix::ffi::OsStrExt;
 use std::path::{Path, PathBuf};
 use std::process::{Command, Output, Stdio};
+use std::time::{Duration, Instant};
 
 const PROGRAM: &str = env!("CARGO_BIN_EXE_nuqtelya");
 
@@ -174,6 +177,82 @@ fn missing_and_misshapen_files() {
     folder.fails(&format!("{TRAIN}2 --samples narrow"), 1, "refused by 6: profile field unfit: training samples");
 }
 
+/// There is no matrix for a single restart, and a file that says so is one.
+#[test]
+fn one_restart_has_an_empty_file_of_matrices() {
+    let folder = trained("one");
+    folder.write("empty", b"");
+    folder.done(&format!("{TRAIN}2 --vectors vectors --restarts 1 --matrices empty"));
+    folder.done("inspect book2");
+    folder.fails(&format!("{TRAIN}2 --vectors vectors --restarts 2 --matrices empty"), 3, "has 0 bytes");
+}
+
+/// Who opens a pipe for reading waits for its writer, and here there is none.
+#[test]
+fn a_pipe_is_not_waited_for() {
+    let folder = trained("pipe");
+    assert!(Command::new("mkfifo").arg(folder.at("pipe")).status().expect("a run").success());
+    for words in [
+        &format!("{TRAIN}2 --vectors pipe"),
+        &format!("{TRAIN}2 --samples pipe"),
+        &format!("{TRAIN}2 --vectors vectors --start pipe"),
+        &format!("{TRAIN}2 --vectors vectors --matrices pipe"),
+        &format!("{TRAIN}2 --vectors vectors --rotation pipe"),
+        "encode --codebook pipe --vectors vectors --out codes",
+        "encode --codebook book --vectors pipe --out codes",
+        "decode --codebook book --codes pipe --out decoded",
+        "inspect pipe",
+    ] {
+        let mut command = Command::new(PROGRAM);
+        command.args(words.split_whitespace()).current_dir(&folder.0).stderr(Stdio::piped());
+        let mut running = command.spawn().expect("a run");
+        let begin = Instant::now();
+        while running.try_wait().expect("a state").is_none() && begin.elapsed() < Duration::from_secs(10) {
+            std::thread::sleep(Duration::from_millis(5));
+        }
+        running.kill().expect("a stop, unless it has ended");
+        let output = running.wait_with_output().expect("an end");
+        let stderr = String::from_utf8_lossy(&output.stderr);
+        assert_eq!(output.status.code(), Some(3), "{words}: {stderr}");
+        assert!(stderr.contains("pipe: is not a plain file"), "{words}: {stderr}");
+    }
+}
+
+#[test]
+fn no_output_takes_the_place_of_an_input() {
+    let folder = trained("same");
+    let said = folder.done("encode --codebook book --vectors vectors --out codes");
+    assert!(said.contains("100 vectors of 32 bytes became codes of 14 bytes"), "{said}");
+    folder.write("samples", &bytes64(values(16).into_iter().map(f64::from)));
+    folder.write("start", &bytes64(values(8).into_iter().map(f64::from)));
+    folder.write("matrices", &bytes64([0.0, 1.0, 1.0, 0.0]));
+    folder.write("rotation", &bytes64((0..64).map(|at: usize| f64::from(u8::from(at.is_multiple_of(9))))));
+    let train = "train --dim 8 --block 2 --codewords 4 --restarts 2 --iterations 5";
+    let given = "--samples samples --start start --matrices matrices --rotation rotation";
+    for (command, inputs) in [
+        ("encode --codebook book --vectors vectors", &["book", "vectors"][..]),
+        ("decode --codebook book --codes codes", &["book", "codes"]),
+        (&format!("{train} --vectors vectors"), &["vectors"]),
+        (&format!("{train} {given}"), &["samples", "start", "matrices", "rotation"]),
+    ] {
+        for input in inputs {
+            let whole = folder.read(input);
+            let _ = (fs::remove_file(folder.at("link")), fs::remove_file(folder.at("name")));
+            std::os::unix::fs::symlink(folder.at(input), folder.at("link")).expect("a link");
+            fs::hard_link(folder.at(input), folder.at("name")).expect("another name");
+            let path = folder.at(input).display().to_string();
+            for out in [input, path.as_str(), "link", "name"] {
+                let said = format!("{out}: is the same file as the input {input}");
+                folder.fails(&format!("{command} --out {out}"), 3, &said);
+                assert_eq!(folder.read(input), whole, "{command} --out {out}");
+            }
+        }
+        // Any other file may be there before.
+        folder.write("out", b"the old one");
+        folder.done(&format!("{command} --out out"));
+    }
+}
+
 #[test]
 fn wrong_use() {
     let folder = trained("use");
@@ -194,6 +273,20 @@ fn wrong_use() {
     folder.fails(&format!("{train} --dim 8 --block 2 --codewords 4 --restarts 0"), 1, "refused by 6");
     folder.fails(&format!("{train} --dim 8 --block 2 --codewords -4"), 2, "--codewords -4");
     assert!(folder.done("train --help").contains("--empty-cells"));
+    assert!(folder.done("train --help").contains("at least 256 and at most 10000000"));
+}
+
+#[test]
+fn a_value_need_not_be_text() {
+    let folder = trained("bytes");
+    // No UTF-8 has a byte ff; and only the first = parts an option from its value.
+    let name = OsStr::from_bytes(b"co\xffdes=1");
+    let mut out = OsString::from("--out=");
+    out.push(name);
+    let mut command = Command::new(PROGRAM);
+    command.args(["encode", "--codebook=book", "--vectors=vectors"]).arg(out).current_dir(&folder.0);
+    assert!(command.output().expect("a run").status.success());
+    assert_eq!(fs::read(folder.0.join(name)).expect("codes").len(), 100 * 14);
 }
 
 #[test]
@@ -241,8 +334,89 @@ fn damage_is_found() {
     assert_eq!(folder.read("decoded"), b"the old ones");
 }
 
+#[test]
+fn damage_is_found_with_the_codebook() {
+    let folder = trained("inspected");
+    folder.done("encode --codebook book --vectors vectors --out codes");
+    let mut codes = folder.read("codes");
+    codes[0] ^= 0x80;
+    folder.write("other", &codes);
+    folder.fails("inspect other --codebook book", 1, "other: code 0: refused by 8: compact frame: wrong magic");
+    folder.fails("inspect other --codebook nowhere", 3, "nowhere");
+    folder.write("other", &folder.read("codes")[..7]);
+    folder.fails("inspect other --codebook book", 3, "other: has 7 bytes");
+    folder.fails("inspect vectors --codebook book", 3, "vectors: has 3200 bytes");
+    // A codebook is no code, and is shown as what it is.
+    assert!(folder.done("inspect book --codebook book").contains("book: a codebook"));
+}
+
+/// A codebook with other bytes at a place, and the check sum that goes with them.
+fn changed(book: &[u8], place: usize, bytes: &[u8]) -> Vec<u8> {
+    let mut book = book[..book.len() - 8].to_vec();
+    book[place..place + bytes.len()].copy_from_slice(bytes);
+    let add = |sum: u64, byte: &u8| (sum ^ u64::from(*byte)).wrapping_mul(0x100_0000_01b3);
+    let sum = book.iter().fold(0xcbf2_9ce4_8422_2325, add);
+    book.extend(sum.to_le_bytes());
+    book
+}
+
+#[test]
+fn values_that_no_training_writes() {
+    let folder = Folder::new("values");
+    // Of two equal codewords one has no sample: it is repaired, in either restart.
+    folder.write("samples", &bytes64([0.0, 0.0, 1.0, 0.0, 3.0, 0.0]));
+    folder.write("start", &bytes64([1.0, 0.0, 1.0, 0.0]));
+    folder.done(
+        "train --dim 4 --block 2 --codewords 2 --samples samples --start start --restarts 2 --iterations 1 --out book",
+    );
+    assert!(folder.done("inspect book").contains("repaired: 2"));
+    let book = folder.read("book");
+    // The places by docs/FILES.md, with names of 20, 37 and 15 bytes and two events; a number there that is still read,
+    // and one that is not.
+    let (policy, best, origin, event, codewords) = (140, 185, 205, 209, 209 + 2 * 44);
+    for (place, fits, unfit, said) in [
+        (policy, 1, 2, "other: its policy for empty cells is 2, not below 2"),
+        (best, 1, 2, "other: its best restart is 2, not below 2"),
+        (origin, 1, 2, "other: the origin of its samples is 2, not below 2"),
+        (origin + 1, 1, 2, "other: the origin of its start is 2, not below 2"),
+        (origin + 2, 0, 255, "other: the origin of its restart matrices is 255, not below 2"),
+        (event, 1, 2, "other: the restart of event 0 is 2, not below 2"),
+        (event + 44 + 4, 0, 1, "other: the round of event 1 is 1, not below 1"),
+        (event + 8, 1, 2, "other: the empty cell of event 0 is 2, not below 2"),
+        (event + 44 + 12, 1, 2, "other: the donor of event 1 is 2, not below 2"),
+    ] {
+        folder.write("other", &changed(&book, place, &[fits]));
+        folder.done("inspect other");
+        folder.write("other", &changed(&book, place, &[unfit]));
+        folder.fails("inspect other", 3, said);
+    }
+    for value in [f32::NAN, f32::INFINITY] {
+        folder.write("other", &changed(&book, codewords + 4, &value.to_le_bytes()));
+        folder.fails("inspect other", 1, "other: its codewords: refused by 18: value 1 of codewords");
+    }
+    folder.write("other", &changed(&book, codewords + 4, &f32::MAX.to_le_bytes()));
+    folder.done("inspect other");
+}
+
+#[test]
+fn every_end_of_a_training_can_be_read() {
+    let folder = Folder::new("ends");
+    folder.write("samples", &bytes64([0.0, 1.0, 0.0, 3.0, 0.0, -1.0, 0.0, -3.0]));
+    folder.write("swap", &bytes64([0.0, 1.0, 1.0, 0.0]));
+    let train = "train --dim 4 --block 2 --codewords 2 --samples samples --start start --iterations 1 --out book";
+    for (start, options, won, repairs) in [
+        ([1.0, 0.0, -1.0, 0.0], "--restarts 2 --matrices swap", "restart 1 won", "repaired: 1 (policy: split"),
+        ([0.0, 1.0, 0.0, -1.0], "--restarts 1 --empty-cells fail", "restart 0 won", "repaired: 0 (policy: refuse"),
+        ([0.0, 2.0, 0.0, -2.0], "--restarts 1", "nothing beat the start", "repaired: 0 (policy: split"),
+    ] {
+        folder.write("start", &bytes64(start));
+        folder.done(&format!("{train} {options}"));
+        let said = folder.done("inspect book");
+        assert!(said.contains(won) && said.contains(repairs), "{said}");
+    }
+}
+
 /// Runs the program under a shell that allows no file to grow beyond a few blocks: what a full disk does.
-#[cfg(unix)]
 #[test]
 fn a_full_disk_leaves_the_old_file() {
     let folder = trained("full");
@@ -267,7 +441,7 @@ fn an_interrupted_run_leaves_the_old_file() {
     let mut command = Command::new(PROGRAM);
     command.args(words.split_whitespace()).current_dir(&folder.0).stdout(Stdio::null());
     let mut running = command.spawn().expect("a run");
-    std::thread::sleep(std::time::Duration::from_millis(300));
+    std::thread::sleep(Duration::from_millis(300));
     assert!(running.try_wait().expect("a state").is_none(), "the training is long");
     running.kill().expect("a stop");
     running.wait().expect("an end");
