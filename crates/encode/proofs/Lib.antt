@@ -1,3 +1,4 @@
 pub mod EncodeLaw
 pub mod CheckLaw
 pub mod AcceptLaw
+mod IndexLaw

@@ -16,7 +16,8 @@ ghost use Rattle.error.specs.Numbers.{checked, ifCompleted};
 ghost use Rattle.ieee.specs.Sum.{plusZero};
 ghost use Rattle.slices.specs.Lists.{patched};
 ghost use Rattle.narrow.specs.Pack.{narrowTo};
-ghost use Rattle.bitpack.specs.Layout.{packedBytes};
+ghost use Rattle.bitpack.specs.Layout.{packedBit, packedBytes};
+ghost use Rattle.bitpack.specs.Cursor.{WriterAt};
 ghost use Rattle.compact.specs.Frame.{bytesOf, header, frameOf};
 ghost use Rattle.lloyd_search.specs.Finite.{FiniteValues};
 ghost use Rattle.norm.specs.Norm.{bitsOf};
@@ -155,6 +156,36 @@ fn round_half(work: &mut [f64], d: usize)
     }
 }
 
+// The packed indices of the whole fours of blocks, four searched at once so that a codeword is widened once for them. Answers the writer after them.
+fn write_fours(
+    codewords: &[f32],
+    n: usize,
+    k: usize,
+    count: usize,
+    width: u8,
+    values: &[f64],
+    output: &mut [u8],
+) -> BitWriter
+    requires { ⌜ (Searchable count k n width (length (now values)) (length (now codewords)) (length (now output))) × FiniteValues (now codewords) ⌝ }
+    ensures { λ r. ⌜ WriterAt (packedBit (indicesFor count k n (now (codewords .entry)) (now (values .entry))) width) (count / 4 * 4 * width) (now (output .entry)) (now (output .exit)) r ⌝ }
+{
+    let fours = count / 4;
+    let mut writer = BitWriter::new();
+    let mut turn = 0usize;
+    let mut at = 0usize;
+    while turn < fours {
+        let end = at + 4 * k;
+        let found = lloyd_search::search_four_f32(codewords, n, k, &values[at..end]);
+        writer = writer.push(found.first.index as u32, width, output);
+        writer = writer.push(found.second.index as u32, width, output);
+        writer = writer.push(found.third.index as u32, width, output);
+        writer = writer.push(found.fourth.index as u32, width, output);
+        at = end;
+        turn += 1usize;
+    }
+    writer
+}
+
 // The packed indices of the codewords that are nearest to the blocks.
 fn write_indices(
     codewords: &[f32],
@@ -168,9 +199,9 @@ fn write_indices(
     requires { ⌜ (Searchable count k n width (length (now values)) (length (now codewords)) (length (now output))) × FiniteValues (now codewords) ⌝ }
     ensures { λ r. ⌜ now (output .exit) ≡ packedBytes (indicesFor count k n (now (codewords .entry)) (now (values .entry))) width ⌝ }
 {
-    let mut writer = BitWriter::new();
-    let mut i = 0usize;
-    let mut at = 0usize;
+    let mut writer = write_fours(codewords, n, k, count, width, values, output);
+    let mut i = count / 4 * 4;
+    let mut at = i * k;
     while i < count {
         let end = at + k;
         let found = lloyd_search::search_f32(codewords, n, &values[at..end]);

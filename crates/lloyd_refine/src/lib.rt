@@ -16,6 +16,7 @@ ghost use Rattle.lloyd_search.specs.Answers.{bounded};
 ghost use Rattle.lloyd_search.specs.Distance.{rowOf};
 ghost use Rattle.lloyd_search.specs.Nearest.{meanError};
 ghost use Rattle.lloyd_events.specs.declared.LloydRepairEvent.{LloydRepairEvent};
+ghost use Rattle.lloyd_events.specs.Events.{zeroEvent};
 ghost use Rattle.lloyd_cells.specs.Repair.{Repaired};
 ghost use Rattle.lloyd_round.specs.Round.{placesOf};
 ghost use Rattle.lloyd_refine.specs.Refine.{Job, Best, Trained, refineLimit, lengthChecks, refineChecks};
@@ -213,7 +214,7 @@ pub fn report(profile: FibQuantProfile, s: RefineState) -> LloydReport
 
 // Stopped with an answer, before updating began or once it has.
 pub fn stop(begun: bool, s: RefineState, answer: Refinement) -> RefineStep
-    ensures { λ r. ⌜ (r .going ≡ false) × (r .begun ≡ begun) × (r .state ≡ s) × (r .answer ≡ answer) ⌝ }
+    ensures { λ r. ⌜ (r .going ≡ false) × (r .begun ≡ begun) × (r .state ≡ s) × (r .answer ≡ answer) × (r .event ≡ zeroEvent) ⌝ }
 {
     RefineStep {
         going: false,
@@ -256,7 +257,7 @@ fn paused(profile: FibQuantProfile, s: RefineState, turn: Turn) -> Pause
     }
 }
 
-// The repairs of a round from the next cell on, up to the next one that is made, or to the end of the round.
+// The repairs of a round from the next cell on, up to the next one that is made, or to the end of the round. What stands in the work beside its codebooks is for the next steps; where it is refused it is left for the end to zero.
 pub fn repair_on(
     samples: &[f64],
     work: &mut [f64],

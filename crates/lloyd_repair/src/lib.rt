@@ -135,7 +135,7 @@ fn repair_from(
     Turn::Repair(event, next)
 }
 
-// The next empty cell is repaired, if there is one and it can be.
+// The next empty cell is repaired, if there is one and it can be. What stands in the work from its words on and in the counts is for the next steps; where it is refused it is left for the end to zero.
 pub fn repair_next(
     work: &mut [f64],
     ints: &mut [u32],

@@ -1,5 +1,5 @@
 // The codebooks in the work of a refinement: copied in, from part to part and out, and the start of a restart.
-// Every function here is public only for the crate above, which lends work of the right lengths.
+// Every function here is public only for the crates above, which lend work of the right lengths.
 ghost use mathlib.Core.Path.{_≡_};
 ghost use mathlib.Core.Logic.{_⊎_};
 ghost use Prim.Native.Nat.{_+_, _-_, _*_, _/_, _%_, _≤_, _<_};

@@ -112,7 +112,7 @@ fn add_samples(
     }
 }
 
-// The samples go to their nearest codewords (the codebook at the front of the float work), are added up, and the cells get their means. Nothing below the words is touched.
+// The samples go to their nearest codewords (the codebook at the front of the float work), are added up, and the cells get their means. Nothing below the words is touched; what else stands in the work is for the next steps.
 pub fn begin_round(
     samples: &[f64],
     work: &mut [f64],

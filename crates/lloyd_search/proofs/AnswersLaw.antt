@@ -1,5 +1,5 @@
 -- What a completed call of nearest or of mean error, alone, has shown: the shapes and the bounds that the checks ask.
--- So every arithmetic result of such a call is finite, and the codeword found is the first of the nearest. In particular the mean is finite: the Rust's refusal of a mean error that is not (20, site 2) can't come from it.
+-- So every arithmetic result of such a call is finite, and the codeword found is the first of the nearest. In particular the mean is finite: the Rust's refusal of a mean error that is not (NumericalFailure) can't come from it.
 -- Assumes nothing.
 use mathlib.Core.Path.{_≡_, refl, sym, ap, _∙_, subst}
 use Prim.Native.Nat.{ℕ, _+_, _*_, _/_, _^_, _≤_, _<_}
@@ -19,12 +19,12 @@ use Rattle.slices.specs.Limit.{firstOutside}
 use Rattle.lloyd_search.specs.declared.Found.{Found}
 use Rattle.lloyd_search.specs.Distance.{distance, vectorOf, rowOf}
 use Rattle.lloyd_search.specs.Nearest.{nearest, meanError, Least}
-use Rattle.lloyd_search.specs.Finite.{FiniteNearest, FiniteMean}
+use Rattle.lloyd_search.specs.Finite.{FiniteNearest, FiniteTotals, FiniteMean}
 use Rattle.lloyd_search.specs.Answers.{codebookShaped, samplesShaped, bounded, searchLimit, nearestAlone, meanErrorAlone}
 use Rattle.lloyd_search.proofs.Parts.{row-place}
 use Rattle.lloyd_search.proofs.ShapeLaw.{Codebook, Samples, codebook-shape, samples-shape, some-sample}
 use Rattle.lloyd_search.proofs.LimitLaw.{all-within}
-use Rattle.lloyd_search.proofs.FiniteLaw.{Bounded, nearest-least, finite-nearest, finite-mean}
+use Rattle.lloyd_search.proofs.FiniteLaw.{Bounded, nearest-least, finite-nearest, finite-totals, finite-mean}
 
 module _ {A : Type 0} where
   never : (n : ℕ) (v : List Value) (r : A) → refused n v ≡ completed r → ⊥
@@ -75,6 +75,11 @@ module _ (n k : ℕ) (codewords block : List Float) (f : Found) (e : nearestAlon
   nearestAlone-finite =
       let a = nearest-accepted in
       finite-nearest 128 (lit≤ tt) k (a .shape .coordinates-upto) n (a .shape .codewords) (rowOf k codewords) (a .codewords-bounded) (vectorOf block) (a .block-bounded)
+
+  pub nearestAlone-totals : FiniteTotals (λ i. distance k (vectorOf block) (rowOf k codewords i)) n
+  nearestAlone-totals =
+      let a = nearest-accepted in
+      finite-totals 128 (lit≤ tt) k (a .shape .coordinates-upto) n (a .shape .codewords) (rowOf k codewords) (a .codewords-bounded) (vectorOf block) (a .block-bounded) (a .shape .codewords-upto)
 
   pub nearestAlone-least : Least (λ i. distance k (vectorOf block) (rowOf k codewords i)) n f
   nearestAlone-least =

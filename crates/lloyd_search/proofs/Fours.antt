@@ -44,13 +44,28 @@ part xs k at = vectorOf (take (at + k - at) (drop at xs))
 abbrev Passes : Found → ℕ → Float → Found → Type 0
 Passes best i x r = r ≡ pick (lt x (best .distance)) (record { index = i; distance = x }) best
 
+-- the distances to four parts are those to the rows
+pub row-distances : (x : ℕ → Float) (xs : List Float) (i k at : ℕ) (f : Four) → at ≡ i * k → Distances k x (part xs k at) (part xs k (at + k)) (part xs k (at + k + k)) (part xs k (at + k + k + k)) f
+    → Distances k x (rowOf k xs i) (rowOf k xs (i + 1)) (rowOf k xs (i + 2)) (rowOf k xs (i + 3)) f
+row-distances x xs i k at f is d = record {
+  to-first = d .to-first ∙ part-distance x xs i k at is;
+  to-second = d .to-second ∙ part-distance x xs (i + 1) k (at + k) (second i k at is);
+  to-third = d .to-third ∙ part-distance x xs (i + 2) k (at + k + k) (third i k at is);
+  to-fourth = d .to-fourth ∙ part-distance x xs (i + 3) k (at + k + k + k) (fourth i k at is);
+}
+
 -- four more codewords of a loop
+pub rows-more : (x : ℕ → Float) (book : ℕ → ℕ → Float) (i k : ℕ) (f : Four) (best one two three r : Found) → Distances k x (book i) (book (i + 1)) (book (i + 2)) (book (i + 3)) f
+    → best ≡ nearest k i book x → Passes best i (f .first) one → Passes one (i + 1) (f .second) two → Passes two (i + 2) (f .third) three → Passes three (i + 3) (f .fourth) r
+    → r ≡ nearest k (i + 4) book x
+rows-more x book i k f best one two three r d h p₁ p₂ p₃ p₄ =
+    let far : ℕ → Float = λ m. distance k x (book m) in
+    let h₁ = one-more far i (i + 1) best one (f .first) refl h (d .to-first) p₁ in
+    let h₂ = one-more far (i + 1) (i + 2) one two (f .second) (omega arith) h₁ (d .to-second) p₂ in
+    let h₃ = one-more far (i + 2) (i + 3) two three (f .third) (omega arith) h₂ (d .to-third) p₃ in
+    one-more far (i + 3) (i + 4) three r (f .fourth) (omega arith) h₃ (d .to-fourth) p₄
+
 pub four-more : (x : ℕ → Float) (xs : List Float) (i k at : ℕ) (f : Four) (best one two three r : Found) → at ≡ i * k → Distances k x (part xs k at) (part xs k (at + k)) (part xs k (at + k + k)) (part xs k (at + k + k + k)) f
     → best ≡ nearest k i (rowOf k xs) x → Passes best i (f .first) one → Passes one (i + 1) (f .second) two → Passes two (i + 2) (f .third) three → Passes three (i + 3) (f .fourth) r
     → r ≡ nearest k (i + 4) (rowOf k xs) x
-four-more x xs i k at f best one two three r is d h p₁ p₂ p₃ p₄ =
-    let far : ℕ → Float = λ m. distance k x (rowOf k xs m) in
-    let h₁ = one-more far i (i + 1) best one (f .first) refl h (d .to-first ∙ part-distance x xs i k at is) p₁ in
-    let h₂ = one-more far (i + 1) (i + 2) one two (f .second) (omega arith) h₁ (d .to-second ∙ part-distance x xs (i + 1) k (at + k) (second i k at is)) p₂ in
-    let h₃ = one-more far (i + 2) (i + 3) two three (f .third) (omega arith) h₂ (d .to-third ∙ part-distance x xs (i + 2) k (at + k + k) (third i k at is)) p₃ in
-    one-more far (i + 3) (i + 4) three r (f .fourth) (omega arith) h₃ (d .to-fourth ∙ part-distance x xs (i + 3) k (at + k + k + k) (fourth i k at is)) p₄
+four-more x xs i k at f best one two three r is d h p₁ p₂ p₃ p₄ = rows-more x (rowOf k xs) i k f best one two three r (row-distances x xs i k at f is d) h p₁ p₂ p₃ p₄

@@ -49,6 +49,11 @@ distance-ext k a b c d h g = sumTo-ext (λ j. squaredDifference (a j) (b j)) (λ
 pub part-distance : (x : ℕ → Float) (xs : List Float) (i k at : ℕ) → at ≡ i * k → distance k x (vectorOf (take (at + k - at) (drop at xs))) ≡ distance k x (rowOf k xs i)
 part-distance x xs i k at is = distance-ext k x _ x (rowOf k xs i) (λ j h. refl) (part-row xs i k at is)
 
+-- the distance of two parts is that of their rows
+pub parts-distance : (xs ys : List Float) (m i k p at : ℕ) → p ≡ m * k → at ≡ i * k
+    → distance k (vectorOf (take (p + k - p) (drop p xs))) (vectorOf (take (at + k - at) (drop at ys))) ≡ distance k (rowOf k xs m) (rowOf k ys i)
+parts-distance xs ys m i k p at e is = distance-ext k _ _ (rowOf k xs m) (rowOf k ys i) (part-row xs m k p e) (part-row ys i k at is)
+
 -- the search sees distances only
 pub firstLeast-ext : (d e : ℕ → Float) (n : ℕ) → ((i : ℕ) → i < n → d i ≡ e i) → firstLeast d n ≡ firstLeast e n
 unfolding firstLeast

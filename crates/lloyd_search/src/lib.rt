@@ -1,12 +1,14 @@
 // The search of lloyd.rs: the squared distance, the nearest codeword and the mean error of a codebook.
 ghost use mathlib.Core.Path.{_≡_};
 ghost use Prim.Native.Nat.{ℕ, _<_, _≤_, _+_, _*_, _/_, _^_};
+ghost use mathlib.Core.Bool.{true};
 ghost use lib.ListN.{length};
 ghost use lib.Ieee.{Float, lt};
 ghost use Rattle.lloyd_search.specs.Distance.{distance, vectorOf, rowOf};
 ghost use Rattle.lloyd_search.specs.Nearest.{pick, nearest, meanError};
-ghost use Rattle.lloyd_search.specs.Four.{Distances};
+ghost use Rattle.lloyd_search.specs.Four.{Distances, tournament, DistancesTo, FourNearest};
 ghost use Rattle.lloyd_search.specs.Finite.{FiniteValues};
+ghost use Rattle.lloyd_search.specs.Watch.{Watches, Near, Small};
 ghost use Rattle.lloyd_search.specs.Answers.{codebookShaped, samplesShaped, nearestAlone, meanErrorAlone, nearestOf, errorOf};
 use error::Refusal;
 use slices::First;
@@ -32,6 +34,13 @@ pub enum CodebookError {
 // The largest magnitude that the search takes: 2 ^ 128.
 const SEARCH_LIMIT: f64 = 340282366920938463463374607431768211456.0;
 
+// A distance below 2 ^ 250, to a block of small values, shows that the codeword is within SEARCH_LIMIT.
+const NEAR_LIMIT: f64 =
+    1809251394333065553493296640760748560207343510400633813116524750123642650624.0;
+
+// The largest magnitude of a small value: 2 ^ 127.
+const SMALL_LIMIT: f64 = 170141183460469231731687303715884105728.0;
+
 // The bits of +infinity, from which a search starts.
 const INFINITY: u64 = 0x7FF0_0000_0000_0000;
 
@@ -50,7 +59,7 @@ pub fn squared_distance(a: &[f64], b: &[f64]) -> f64
     sum
 }
 
-// The distances of four codewords.
+// Four distances.
 struct Four {
     first: f64,
     second: f64,
@@ -252,6 +261,84 @@ pub fn search_f32(codewords: &[f32], n: usize, block: &[f64]) -> Found
     best
 }
 
+// The squared distances of four blocks to one codeword of finite binary32 values, each value widened once for the four.
+fn distances_of_four_f32(codeword: &[f32], a: &[f64], b: &[f64], c: &[f64], d: &[f64]) -> Four
+    requires { ⌜ (length (now a) ≡ length (now codeword)) × (length (now b) ≡ length (now codeword)) × (length (now c) ≡ length (now codeword)) × (length (now d) ≡ length (now codeword)) × FiniteValues (now codeword) ⌝ }
+    ensures { λ r. ⌜ DistancesTo (length (now (codeword .entry))) (vectorOf (now (codeword .entry))) (vectorOf (now (a .entry))) (vectorOf (now (b .entry))) (vectorOf (now (c .entry))) (vectorOf (now (d .entry))) r ⌝ }
+{
+    let mut first = 0.0;
+    let mut second = 0.0;
+    let mut third = 0.0;
+    let mut fourth = 0.0;
+    let mut j = 0usize;
+    while j < codeword.len() {
+        let y = codeword[j] as f64;
+        let e = a[j] - y;
+        let f = b[j] - y;
+        let g = c[j] - y;
+        let h = d[j] - y;
+        first = first + e * e;
+        second = second + f * f;
+        third = third + g * g;
+        fourth = fourth + h * h;
+        j += 1usize;
+    }
+    Four {
+        first,
+        second,
+        third,
+        fourth,
+    }
+}
+
+// What is found for four blocks.
+pub struct FourFound {
+    pub first: Found,
+    pub second: Found,
+    pub third: Found,
+    pub fourth: Found,
+}
+
+// Public only for the crates above: `search_f32` for four blocks of k values that stand one after another.
+pub fn search_four_f32(codewords: &[f32], n: usize, k: usize, blocks: &[f64]) -> FourFound
+    requires { ⌜ (length (now codewords) ≡ n * k) × (length (now blocks) ≡ 4 * k) × FiniteValues (now codewords) ⌝ }
+    ensures { λ r. ⌜ FourNearest k n (rowOf k (now (codewords .entry))) (rowOf k (now (blocks .entry))) r ⌝ }
+{
+    let two = k + k;
+    let three = two + k;
+    let four = three + k;
+    let a = &blocks[..k];
+    let b = &blocks[k..two];
+    let c = &blocks[two..three];
+    let d = &blocks[three..four];
+    let none = Found {
+        index: 0,
+        distance: f64::from_bits(INFINITY),
+    };
+    let mut first = none;
+    let mut second = none;
+    let mut third = none;
+    let mut fourth = none;
+    let mut i = 0usize;
+    let mut at = 0usize;
+    while i < n {
+        let end = at + k;
+        let far = distances_of_four_f32(&codewords[at..end], a, b, c, d);
+        first = nearer(first, i, far.first);
+        second = nearer(second, i, far.second);
+        third = nearer(third, i, far.third);
+        fourth = nearer(fourth, i, far.fourth);
+        at = end;
+        i += 1usize;
+    }
+    FourFound {
+        first,
+        second,
+        third,
+        fourth,
+    }
+}
+
 // Public only for the crates above: whether this many values are n codewords of k coordinates, within the limits of calls alone.
 pub fn codebook_shaped(n: u64, k: u64, values: usize) -> bool
     ensures { λ r. ⌜ r ≡ codebookShaped n k values ⌝ }
@@ -282,7 +369,123 @@ pub fn samples_shaped(k: u64, values: usize) -> bool
     values as u64 / k <= 10_000_000
 }
 
-// The codeword nearest to a block, with its distance; the first of equals.
+// The nearest of four codewords, the first of which has this index; among equals the first. In pairs, which is faster than in order; a NaN would show the difference.
+fn nearest_of_four(index: usize, four: Four) -> Found
+    requires { ⌜ index + 3 < 2 ^ 64 ⌝ }
+    ensures { λ r. ⌜ r ≡ tournament index four ⌝ }
+{
+    let low = nearer(
+        Found {
+            index,
+            distance: four.first,
+        },
+        index + 1,
+        four.second,
+    );
+    let high = nearer(
+        Found {
+            index: index + 2,
+            distance: four.third,
+        },
+        index + 3,
+        four.fourth,
+    );
+    nearer(low, high.index, high.distance)
+}
+
+// The nearest codeword, and the sum of all distances.
+struct Watched {
+    best: Found,
+    total: f64,
+}
+
+// The nearest of the first 4 × fours codewords, and the sum of their distances, in four sums side by side. Where the sum is small, so is every distance, and none is a NaN.
+fn watch_fours(codewords: &[f64], fours: usize, block: &[f64]) -> Watched
+    requires { ⌜ (fours * 4 < 2 ^ 64) × (fours * 4 * length (now block) ≤ length (now codewords)) ⌝ }
+    ensures { λ r. ⌜ Watches (length (now (block .entry))) fours (rowOf (length (now (block .entry))) (now (codewords .entry))) (vectorOf (now (block .entry))) r ⌝ }
+{
+    let k = block.len();
+    let mut best = Found {
+        index: 0,
+        distance: f64::from_bits(INFINITY),
+    };
+    let mut first = 0.0;
+    let mut second = 0.0;
+    let mut third = 0.0;
+    let mut fourth = 0.0;
+    let mut i = 0usize;
+    let mut at = 0usize;
+    let mut turn = 0usize;
+    while turn < fours {
+        let at2 = at + k;
+        let at3 = at2 + k;
+        let at4 = at3 + k;
+        let end = at4 + k;
+        let four = four_distances(
+            block,
+            &codewords[at..at2],
+            &codewords[at2..at3],
+            &codewords[at3..at4],
+            &codewords[at4..end],
+        );
+        first = first + four.first;
+        second = second + four.second;
+        third = third + four.third;
+        fourth = fourth + four.fourth;
+        let found = nearest_of_four(i, four);
+        best = nearer(best, found.index, found.distance);
+        at = end;
+        i += 4usize;
+        turn += 1usize;
+    }
+    Watched {
+        best,
+        total: (first + second) + (third + fourth),
+    }
+}
+
+// What a search has seen: whether every distance was near, which is below NEAR_LIMIT; and if so, the nearest codeword.
+struct Seen {
+    best: Found,
+    near: bool,
+}
+
+// `search` that also tells whether every distance was near; where one was not, the codeword it names may be another.
+fn search_near(codewords: &[f64], n: usize, block: &[f64]) -> Seen
+    requires { ⌜ length (now codewords) ≡ n * length (now block) ⌝ }
+    ensures { λ r. ⌜ (r .near ≡ true → Near (length (now (block .entry))) n (rowOf (length (now (block .entry))) (now (codewords .entry))) (vectorOf (now (block .entry))) (r .best)) ⌝ }
+{
+    let k = block.len();
+    let watched = watch_fours(codewords, n / 4, block);
+    let mut best = watched.best;
+    let mut near = watched.total < NEAR_LIMIT;
+    let mut i = n / 4 * 4;
+    let mut at = i * k;
+    while i < n {
+        let end = at + k;
+        let distance = squared_distance(block, &codewords[at..end]);
+        if !(distance < NEAR_LIMIT) {
+            near = false;
+        }
+        best = nearer(best, i, distance);
+        at = end;
+        i += 1usize;
+    }
+    Seen { best, near }
+}
+
+// Whether the distances seen and the values of the block are so small that the block and every codeword are within SEARCH_LIMIT.
+fn small_distances(seen: Seen, block: &[f64]) -> bool
+    ensures { λ r. ⌜ (r ≡ true → Small seen (now (block .entry))) ⌝ }
+{
+    let bad = slices::first_outside(block, SMALL_LIMIT);
+    match bad {
+        First::Nowhere => seen.near,
+        First::At(_) => false,
+    }
+}
+
+// The codeword nearest to a block, with its distance; the first of equals. Where the distances are small, they spare the scan of all codewords.
 pub fn nearest_index(
     codewords: &[f64],
     codebook_size: u64,
@@ -296,6 +499,11 @@ pub fn nearest_index(
     }
     if block.len() as u64 != block_dim {
         return NearestCodeword::Refused(Refusal::SliceLength(5));
+    }
+    let seen = search_near(codewords, codebook_size as usize, block);
+    let best = seen.best;
+    if small_distances(seen, block) {
+        return NearestCodeword::Nearest(best);
     }
     let bad = slices::first_outside(block, SEARCH_LIMIT);
     if let First::At(place) = bad {

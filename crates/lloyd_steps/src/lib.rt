@@ -227,7 +227,7 @@ fn not_begun(r: Refusal) -> RefineStep
     lloyd_refine::stop(false, s, Refinement::Refused(r))
 }
 
-// The refinement goes on after the repair that s made, whose event is written by now.
+// The refinement goes on after the repair that s made, whose event is written by now. What stands in the work beside its codebooks is for the next steps; where it is refused it is left for the end to zero.
 pub fn next_refine(
     initial: &[f64],
     samples: &[f64],

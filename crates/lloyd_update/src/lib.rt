@@ -1,5 +1,5 @@
 // The update of lloyd.rs, called alone: its checks, its means, its repairs one at a time, and its end.
-// A repair is a value here; the event slots are written in one place above. The public functions are public only for that crate.
+// A repair is a value here; the event slots are written in one place above. The public functions are public only for the crates above.
 ghost use mathlib.Core.Path.{_≡_};
 ghost use mathlib.Core.Bool.{true, false, cond, _&&_};
 ghost use mathlib.Core.List.{List, [], _∷_, _++_};
@@ -214,7 +214,7 @@ fn stop(begun: bool, answer: Updated) -> Step
     }
 }
 
-// The next repair after the one that s made, whose event is the last of `used` events.
+// The next repair after the one that s made, whose event is the last of `used` events. What stands in work and counts is for the next steps; where it is refused it is left for the end to zero.
 pub fn next_repair(
     samples: &[f64],
     work: &mut [f64],

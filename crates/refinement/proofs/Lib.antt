@@ -1,7 +1,6 @@
 pub mod ChecksLaw
 pub mod DonorLaw
 pub mod CourseLaw
-pub mod WithinLaw
 pub mod StandLaw
 pub mod TameLaw
 pub mod WinsLaw

@@ -24,7 +24,7 @@ use Rattle.lloyd_search.proofs.FiniteLaw.{Bounded}
 use Rattle.lloyd_update.specs.Alone.{updateLimit, wordsOf}
 use Rattle.lloyd_refine.specs.Refine.{Job, sizeOf, dimOf, restartsOf, matrixOf, initialWord, rotated, startOf}
 use Rattle.refinement.proofs.ChecksLaw.{Checked}
-use Rattle.refinement.proofs.WithinLaw.{all-upto, wider}
+use Rattle.lloyd_search.proofs.WithinLaw.{all-upto, wider}
 
 pub rows-bounded : (b n k : ℕ) (xs : List Float) → firstOutside (power b) xs ≡ Nowhere → length xs ≡ n * k → (i : ℕ) → i < n → Bounded b k (rowOf k xs i)
 rows-bounded b n k xs h e i l c m = all-within b xs h (i * k + c) (row-place i n k c (length xs) l m e)

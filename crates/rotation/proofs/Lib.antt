@@ -1,5 +1,6 @@
 pub mod RowLaw
 pub mod ShapeLaw
-pub mod FourLaw
+pub mod EightLaw
 pub mod HalfLaw
 pub mod ColumnLaw
+pub mod ColumnHalfLaw

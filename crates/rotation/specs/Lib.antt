@@ -1,2 +1,3 @@
 pub mod Apply
-pub mod FourRows
+pub mod EightRows
+pub mod AddedRows

@@ -8,13 +8,13 @@ use mathlib.Core.Bool.{false, cond}
 use mathlib.Core.List.{List, [], _∷_, _++_}
 use lib.Dec.{leb}
 use lib.ListN.{length, getD, length-append, List·getD-append}
-use lib.Ieee.{le}
+use lib.Ieee.{binary64, round, le}
 use borrow.Author.Tests.{le-leb, lt-leb}
 use Rattle.error.specs.Numbers.{completed}
 use Rattle.slices.specs.declared.First.the-variants.{At}
 use Rattle.lloyd_events.specs.declared.LloydRepairEvent.{LloydRepairEvent}
 use Rattle.lloyd_events.specs.Events.{zeroEvent}
-use Rattle.lloyd_cells.specs.Repair.{Repaired, leastNorm, residualNorm, eventOf, turn, repairTo}
+use Rattle.lloyd_cells.specs.Repair.{Repaired, epsilon, leastNorm, residualNorm, eventOf, turn, repairTo}
 use Rattle.lloyd_cells.proofs.TallyLaw.{then-completed, splitBy, turn-completed, tallied}
 use Rattle.lloyd_repair.proofs.TurnLaw.{is-empty}
 use Rattle.lloyd_update.specs.Alone.{Call, updateChecks, termsOf}
@@ -94,6 +94,11 @@ module _ (c : Call) (e : ℕ) (r s : Repaired) (h : Repairs c e r) (next : Stand
       last = ap state size ∙ latest;
     }
 
+-- the epsilon of a split is the value nearest to 1.0e-6
+nearest-epsilon : epsilon ≡ round binary64 false 1 1000000
+unfolding round
+nearest-epsilon = refl
+
 module _ (c : Call) (pass : updateChecks c ≡ completed tt) (allowed : Open c) where
   abbrev eventBy : ℕ → Repaired → ℕ → LloydRepairEvent
   eventBy e r d = eventOf (termsOf c) (r .cells) d e (residualNorm (c .dim) (farOf c d) (r .cells .word d))
@@ -110,9 +115,12 @@ module _ (c : Call) (pass : updateChecks c ≡ completed tt) (allowed : Open c) 
       empty = empty;
       far = farthestOf c d;
       donor = donor c pass e r l came empty d found;
+      restart = refl;
+      iteration = refl;
       count = refl;
       distortion = refl;
       norm = refl;
+      epsilon = nearest-epsilon;
       above = above c pass e r l came empty d found wide;
       slot = slot;
       parted = ap (λ (x : Repaired). x .cells) is;

@@ -7,7 +7,7 @@ use mathlib.Core.List.{List, [], _∷_, _++_}
 use lib.Dec.{T, eqb}
 use lib.IntN.{pos}
 use lib.ListN.{length, getD}
-use lib.Ieee.{Float, binary64, div, lt, le, ofInt}
+use lib.Ieee.{Float, binary64, round, div, lt, le, ofInt}
 use Rattle.error.specs.Numbers.{Value, completed, refused, whole}
 use Rattle.ieee.specs.Sum.{plusZero, sumTo}
 use Rattle.profile.specs.declared.EmptyCellPolicy.the-variants.{SplitHighestDistortion, FailClosed}
@@ -77,9 +77,13 @@ pub record Repair (c : Call) (event : LloydRepairEvent) (before after : Repaired
   pub empty : before .cells .tally (event .«empty_cell») ≡ 0
   pub far : Farthest
   pub donor : Donor c before (event .«donor_cell») far
+  pub restart : event .restart ≡ c .restart
+  pub iteration : event .iteration ≡ c .iteration
   pub count : event .«donor_count_before» ≡ before .cells .tally (event .«donor_cell»)
   pub distortion : event .«donor_distortion» ≡ before .cells .distortion (event .«donor_cell»)
   pub norm : event .«residual_norm» ≡ normAt c before (event .«donor_cell») far
+  -- 1.0e-6, rounded to binary64
+  pub epsilon : event .«split_epsilon» ≡ round binary64 false 1 1000000
   pub above : T (lt leastNorm (event .«residual_norm»))
   pub slot : length (before .events) < c .slots
   -- donor and empty cell part, and the event comes last

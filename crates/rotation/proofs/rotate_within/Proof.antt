@@ -12,13 +12,13 @@ use Rattle.rotation.proofs.HalfLaw.{first-half, filled-half}
 use Rattle.rotation.proofs.rotate_within.Statement.{statement}
 use Rattle.rotation.proofs.rotate_within.Tie as tie
 
-rotate-fours-within-requires : tie.Need-rotate-fours-within-requires
-rotate-fours-within-requires c κs = search needs
+rotate-eights-within-requires : tie.Need-rotate-eights-within-requires
+rotate-eights-within-requires c κs = search needs
 
 rotate-rest-within-requires : tie.Need-rotate-rest-within-requires
 rotate-rest-within-requires c κs =
     let a = c .before .before .before .before .before .before .before in
-    let f = c .before .before .before .rotate-fours-within in
+    let f = c .before .before .before .rotate-eights-within in
     let h : a .args .d ≤ length (a .args .work .now) = omega arith in
     (a .pre .0, (search needs, (search needs, filled-half (a .args .d) (f .result) (appliedAt (a .args .d) (a .args .matrix .now)) (f .last .1 .0) (a .args .work .now) h (f .ensures .1))))
 
@@ -27,7 +27,7 @@ same-length c = search needs
 
 returns : tie.Need-returns
 returns c =
-    let f = c .before .before .before .before .before .before .rotate-fours-within in
+    let f = c .before .before .before .before .before .before .rotate-eights-within in
     let a = c .before .before .before .before .before .before .before .before .before .before in
     let d = a .args .d in
     let v = a .args .work .now in
@@ -38,4 +38,4 @@ returns c =
 pub rotate-within-spec : {M : Type 1} → statement M
 rotate-within-spec =
     tie.close
-    (tie.spec rotate-fours-within-requires rotate-rest-within-requires same-length returns)
+    (tie.spec rotate-eights-within-requires rotate-rest-within-requires same-length returns)
