@@ -15,6 +15,7 @@ use Rattle.lloyd_search.specs.Nearest.{firstLeast}
 use Rattle.lloyd_cells.specs.Cells.{countTo, cellSum, farthest}
 use Rattle.lloyd_cells.specs.Repair.{donorTo, repairTo}
 use Rattle.lloyd_cells.specs.Update.{updated}
+use Rattle.encode.specs.Encode.{normOf}
 use Rattle.samples.specs.Table.{Hold, table, update, float, floats, splitRow, noDirectionRow, noDonorRow, nearestRow, meanRow, widthRow, oneCodewordRow, packingRow, paddingRow, frameRow, normRow, smallNormRow, narrowingRow, rootRow}
 
 splitRow-holds : splitRow .given ≡ splitRow .stated
@@ -70,7 +71,7 @@ unfolding narrowingRow float floats ofInt round size span climb units odd traili
 narrowingRow-holds = refl
 
 rootRow-holds : rootRow .given ≡ rootRow .stated
-unfolding rootRow float floats ofInt round size span climb units odd sum add sub neg mul div lt eq le trailingZeros sumTo isqrtBy isqrt rootOf sqrtOf
+unfolding rootRow normOf float floats ofInt round size span climb units odd sum add sub neg mul div lt eq le trailingZeros sumTo isqrtBy isqrt rootOf sqrtOf
 rootRow-holds = refl
 
 pub samples-hold : Hold table

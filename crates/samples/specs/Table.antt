@@ -13,13 +13,13 @@ use Rattle.bitpack.specs.Answers.{unpackable}
 use Rattle.compact.specs.Frame.{bytesOf, frameOf}
 use Rattle.narrow.specs.Pack.{narrowTo}
 use Rattle.norm.specs.Norm.{normBits}
-use Rattle.root.specs.Sqrt.{sqrtOf}
 use Rattle.lloyd_search.specs.declared.Found.{Found}
-use Rattle.lloyd_search.specs.Distance.{rowOf, vectorOf, distance}
+use Rattle.lloyd_search.specs.Distance.{rowOf, vectorOf}
 use Rattle.lloyd_search.specs.Nearest.{nearest, meanError}
 use Rattle.lloyd_events.specs.declared.LloydRepairEvent.{LloydRepairEvent}
 use Rattle.lloyd_cells.specs.Repair.{Repaired, epsilon}
 use Rattle.lloyd_cells.specs.Update.{updated}
+use Rattle.encode.specs.Encode.{normOf}
 
 -- a row: what a definition gives, and what the paper says
 pub record Row : Type 0 where
@@ -117,7 +117,7 @@ narrowingRow = record { given = real (narrowTo binary32 (float 16777217)) ∷ []
 
 unfoldable pub rootRow : Row
 unfolding update floats float
-rootRow = record { given = real (sqrtOf binary64 (distance 2 (vectorOf (floats (3 ∷ 4 ∷ []))) (vectorOf (floats (0 ∷ 0 ∷ []))))) ∷ []; stated = real (float 5) ∷ [] }
+rootRow = record { given = real (normOf (floats (3 ∷ 4 ∷ []))) ∷ []; stated = real (float 5) ∷ [] }
 
 unfoldable pub table : List Row
 unfolding splitRow noDirectionRow noDonorRow nearestRow meanRow widthRow oneCodewordRow packingRow paddingRow frameRow normRow smallNormRow narrowingRow rootRow
