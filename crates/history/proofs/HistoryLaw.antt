@@ -21,7 +21,7 @@ use Rattle.lloyd_cells.proofs.TallyLaw.{then-completed, then-refused, donor-fou
 use Rattle.lloyd_update.specs.Alone.{Call, updateChecks, termsOf, updateOf, updateAlone, codebookAfter, slotsAfter}
 use Rattle.history.specs.History.{Request, callWith, after, answers, isCompleted, completions, accepted, Made, sampleCount, assignedTally, tallyAfter, Sound, Balanced, Tallies, AcceptedCall, AnyCall, History}
 use Rattle.history.proofs.ChecksLaw.{cond-passed, cond-refused, one-for-each, all-cells, checks-not-15}
-use Rattle.history.proofs.TalliesLaw.{counted, follows, balanced}
+use Rattle.history.proofs.TalliesLaw.{counted, follows, balanced, events-fit}
 
 take-front : {A : Type 0} (xs ys : List A) → take (length xs) (xs ++ ys) ≡ xs
 take-front [] ys = refl
@@ -66,7 +66,7 @@ module _ (c : Call) where
           let h = repairs-completed r done in
           let s : Sound (assignedTally (c .assignments)) (r .events) = rw start-is at (follows (termsOf c) far start (c .size) r h .0) in
           let b : Balanced (sampleCount c) (c .size) (tallyAfter (assignedTally (c .assignments)) (r .events)) = rw start-is at (balanced (termsOf c) far start (sampleCount c) r start-all h) in
-          record { reported = l; sound = rw e s; counted = rw e (counted (assignedTally (c .assignments)) (r .events) s); balanced = rw e b }
+          record { reported = l; free = events-fit (termsOf c) far start (c .size) r h; sound = rw e s; counted = rw e (counted (assignedTally (c .assignments)) (r .events) s); balanced = rw e b }
 
       slots-are : (slots : List LloydRepairEvent) → slotsAfter c slots ≡ r .events ++ drop (length (r .events)) slots
       slots-are slots = rw (pass, done)

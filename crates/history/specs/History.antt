@@ -127,7 +127,9 @@ abbrev pub tallyOf : Call → List LloydRepairEvent → ℕ → ℕ → ℕ
 tallyOf c slots repairs = tallyAfter (assignedTally (c .assignments)) (take repairs slots)
 
 pub record Tallies (c : Call) (slots : List LloydRepairEvent) (repairs : ℕ) : Type 0 where
+  -- all of them stand in the slots, and no more than were free
   pub reported : repairs ≤ length slots
+  pub free : repairs ≤ c .slots
   pub sound : Sound (assignedTally (c .assignments)) (take repairs slots)
   -- the samples assigned, less those given away, plus one if filled
   pub counted : (cell : ℕ)

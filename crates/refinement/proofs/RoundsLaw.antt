@@ -90,7 +90,7 @@ module _ (j : Job) (c : Course) (b : Best) (ran : Ran j c b) where
 
 -- tallies are about the events in the first slots alone
 same-tallies : (c : Call) (xs ys : List LloydRepairEvent) (n : ℕ) → n ≤ length ys → take n ys ≡ take n xs → Tallies c xs n → Tallies c ys n
-same-tallies c xs ys n l e t = record { reported = l; sound = rw e (t .sound); counted = rw e (t .counted); balanced = rw e (t .balanced) }
+same-tallies c xs ys n l e t = record { reported = l; free = t .free; sound = rw e (t .sound); counted = rw e (t .counted); balanced = rw e (t .balanced) }
 
 module _ (j : Job) (c : Course) (b : Best) (checks : refineChecks j ≡ completed tt) (done : restartsTo j (restartsOf j) ≡ completed b) (ran : Ran j c b) (pass : Checked j)
     (size : (r i : ℕ) → r < restartsOf j → i ≤ iterationsOf j → length (c .stand r i .codebook) ≡ sizeOf j * dimOf j)
