@@ -1,11 +1,10 @@
 //! A trained codebook as a file: docs/FILES.md has its layout.
 
+use crate::coding::check_values;
 use crate::failure::{Done, Failure};
 use crate::files::{Input, Output};
 use crate::rotation::{self, Rule};
-use nuqtelya::{
-    check_codewords, Event, Profile, Report, MAX_EVENT_SLOTS, PROFILE_SCHEMA, REPORT_SCHEMA, ROTATION_ALGORITHM,
-};
+use nuqtelya::{Event, Profile, Report, MAX_EVENT_SLOTS, PROFILE_SCHEMA, REPORT_SCHEMA, ROTATION_ALGORITHM};
 use std::fmt::Display;
 use std::path::Path;
 
@@ -134,11 +133,11 @@ impl Book {
             return Err(bad("is damaged: its check sum is another"));
         }
         check_events(path, &events, &profile)?;
-        check_codewords(&codewords, profile.codebook_size.into(), profile.block_dim.into())
-            .map_err(Failure::refused(format!("{}: its codewords", path.display())))?;
         if rule != Rule::Stored {
             matrix = rotation::rotation(dim, profile.rotation_seed);
         }
+        check_values(&profile, &matrix, &codewords)
+            .map_err(Failure::refused(format!("{}: its values", path.display())))?;
         Ok(Book { profile, report, made, rule, events, codewords, matrix })
     }
 }

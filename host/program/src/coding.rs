@@ -6,7 +6,7 @@ use crate::failure::{Done, Failure};
 use crate::files::{Input, Output};
 use crate::progress::Progress;
 use crate::{memory, say};
-use nuqtelya::{Coder, Refusal};
+use nuqtelya::{Coder, Profile, Refusal};
 use std::ffi::OsString;
 use std::path::Path;
 
@@ -81,6 +81,11 @@ pub fn decode(book: &Book, codes: &Path, out: &Path) -> Done<(u64, u64)> {
     }
     output.finish()?;
     Ok((count, 4 * d as u64))
+}
+
+/// The library's own test of codewords and matrix (18), which comes before a vector is encoded.
+pub fn check_values(p: &Profile, matrix: &[f64], codewords: &[f32]) -> Result<(), Refusal> {
+    Coder::new(*p, matrix, codewords)?.encode(&vec![1.0; p.ambient_dim as usize]).map(|_| ())
 }
 
 fn coder(book: &Book) -> Done<Coder<'_>> {

@@ -1,13 +1,14 @@
 //! What a training is lent: read from files, or made where it is not handed in.
 
 use crate::book::Made;
+use crate::coding::check_values;
 use crate::failure::{Done, Failure};
 use crate::files::Input;
 use crate::memory::zeros;
 use crate::rotation::{self, Rule};
 use crate::samples;
 use crate::train::{Job, Source};
-use nuqtelya::{Coder, Profile};
+use nuqtelya::Profile;
 use std::path::PathBuf;
 
 /// The files of a training, opened, with their lengths tested.
@@ -103,12 +104,11 @@ fn exactly(path: &Option<PathBuf>, values: usize, what: &str) -> Done<Option<Inp
     Ok(Some(file))
 }
 
-/// A rotation that was handed in. Training does not use it, so a vector is encoded here to have its values tested now.
+/// A rotation that was handed in. Training does not use it, so its values are tested now.
 fn handed_in(file: &mut Input, d: usize, p: &Profile) -> Done<Vec<f64>> {
     let mut matrix = zeros(d * d)?;
     file.f64s(&mut matrix)?;
     let codewords = zeros(p.codebook_size as usize * p.block_dim as usize)?;
-    let encoded = Coder::new(*p, &matrix, &codewords).and_then(|mut coder| coder.encode(&vec![1.0; d]));
-    encoded.map_err(Failure::refused(file.path().display().to_string()))?;
+    check_values(p, &matrix, &codewords).map_err(Failure::refused(file.path().display().to_string()))?;
     Ok(matrix)
 }

@@ -392,9 +392,27 @@ fn values_that_no_training_writes() {
     }
     for value in [f32::NAN, f32::INFINITY] {
         folder.write("other", &changed(&book, codewords + 4, &value.to_le_bytes()));
-        folder.fails("inspect other", 1, "other: its codewords: refused by 18: value 1 of codewords");
+        folder.fails("inspect other", 1, "other: its values: refused by 18: value 1 of codewords");
     }
     folder.write("other", &changed(&book, codewords + 4, &f32::MAX.to_le_bytes()));
+    folder.done("inspect other");
+}
+
+/// A rotation that was handed in stands in the codebook, after two codewords of two values.
+#[test]
+fn a_stored_rotation_is_tested() {
+    let folder = Folder::new("stored");
+    folder.write("samples", &bytes64([1.0, 0.0, 3.0, 0.0, -1.0, 0.0]));
+    let unit = [1., 0., 0., 0., 0., 1., 0., 0., 0., 0., 1., 0., 0., 0., 0., 1.];
+    folder.write("rotation", &bytes64(unit));
+    folder.done("train --dim 4 --block 2 --codewords 2 --samples samples --rotation rotation --restarts 1 --out book");
+    let book = folder.read("book");
+    let place = book.len() - 8 - 8 * 16 + 8 * 3;
+    for value in [f64::NAN, f64::NEG_INFINITY, 1048576.0f64.next_up()] {
+        folder.write("other", &changed(&book, place, &value.to_le_bytes()));
+        folder.fails("inspect other", 1, "other: its values: refused by 18: value 3 of matri");
+    }
+    folder.write("other", &changed(&book, place, &1048576.0f64.to_le_bytes()));
     folder.done("inspect other");
 }
 
