@@ -1,5 +1,5 @@
 // How answers cross: a number is returned, and values are written to room that the host lends, all of it in every case.
-// specs/Crossing.antt says what stands where. The functions are public only for the crate of the exports.
+// specs/Crossing.antt says what stands where. The functions are public only for the crates of the exports.
 use error::Checked;
 use error::Refusal;
 ghost use mathlib.Core.Path.{_≡_};

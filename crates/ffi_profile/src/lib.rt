@@ -1,5 +1,5 @@
 // A profile as a host hands it in and gets it back: numbers, with its choices by their codes.
-// The functions are public only for the crate of the exports.
+// The functions are public only for the crates of the exports.
 pub mod codes;
 
 use profile::FibQuantProfile;

@@ -1,7 +1,7 @@
 //! The proved quantiser, for a Rust program to call.
 //!
 //! A codebook is trained on sample vectors ([`train`]); a vector is then stored as a short frame of codeword numbers
-//! and read back ([`Coder`]). The work is done by functions that are proved (crate `ffi` and what it stands on); here
+//! and read back ([`Coder`]). The work is done by functions that are proved (crates `ffi`, `ffi_codes`, `ffi_training` and what they stand on); here
 //! are only their calls. Every call is completed or gives a [`Refusal`] with a number of document 01's table; no input
 //! makes one panic.
 //!
