@@ -162,8 +162,8 @@ pub fn search(codewords: &[f64], n: usize, block: &[f64]) -> Found
     best
 }
 
-// Public only for the crates above: the squared distance of a vector to one of finite binary32 values, widened.
-pub fn squared_distance_f32(a: &[f64], b: &[f32]) -> f64
+// The squared distance of a vector to one of finite binary32 values, widened.
+fn squared_distance_f32(a: &[f64], b: &[f32]) -> f64
     requires { ⌜ (length (now a) ≡ length (now b)) × FiniteValues (now b) ⌝ }
     ensures { λ r. ⌜ r ≡ distance (length (now (a .entry))) (vectorOf (now (a .entry))) (vectorOf (now (b .entry))) ⌝ }
 {
