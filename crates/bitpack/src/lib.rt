@@ -9,6 +9,7 @@ ghost use Rattle.bitpack.specs.Answers.{sized, packedSize, scanned, inRa
 ghost use Rattle.bitpack.specs.Cursor.{ReaderAt, Pullable, PulledAt, WriterAt, Pushable, Finishable};
 use error::Checked;
 use error::Refusal;
+use error::names;
 
 // How many bytes a packing takes, or why there is none.
 pub enum Size {
@@ -182,11 +183,11 @@ pub fn pack_indices(indices: &[u32], width: u8, output: &mut [u8]) -> Checked
 {
     let size = packed_size(indices.len() as u64, width);
     match size {
-        Size::WidthUnfit => Checked::Refused(Refusal::PackedIndices(1)),
+        Size::WidthUnfit => Checked::Refused(Refusal::PackedIndices(names::PACKED_WIDTH_SITE)),
         Size::TooLarge => Checked::Refused(Refusal::ResourceLimitExceeded),
         Size::Bytes(len) => {
             if output.len() as u64 != len {
-                return Checked::Refused(Refusal::SliceLength(6));
+                return Checked::Refused(Refusal::SliceLength(names::OUTPUT_SLICE));
             }
             let bound = ((1u64 << width) - 1) as u32;
             let found = first_above(indices, bound);
@@ -239,17 +240,17 @@ pub fn unpack_indices(bytes: &[u8], count: u64, width: u8, output: &mut [u32]) -
 {
     let size = packed_size(count, width);
     match size {
-        Size::WidthUnfit => Checked::Refused(Refusal::PackedIndices(1)),
+        Size::WidthUnfit => Checked::Refused(Refusal::PackedIndices(names::PACKED_WIDTH_SITE)),
         Size::TooLarge => Checked::Refused(Refusal::ResourceLimitExceeded),
         Size::Bytes(len) => {
             if bytes.len() as u64 != len {
-                return Checked::Refused(Refusal::PackedIndices(2));
+                return Checked::Refused(Refusal::PackedIndices(names::PACKED_LENGTH_SITE));
             }
             let spare = padding(bytes, count * width as u64);
             if spare != 0 {
-                Checked::Refused(Refusal::PackedIndices(3))
+                Checked::Refused(Refusal::PackedIndices(names::PADDING_BIT_SITE))
             } else if output.len() as u64 != count {
-                Checked::Refused(Refusal::SliceLength(6))
+                Checked::Refused(Refusal::SliceLength(names::OUTPUT_SLICE))
             } else {
                 read_indices(bytes, width, output);
                 Checked::Accepted

@@ -10,7 +10,8 @@ use Rattle.error.specs.Names.{codewordsSlice, outputSlice}
 use Rattle.error.specs.Numbers.{Outcome, completed, refused, whole}
 use Rattle.slices.specs.declared.First.{First}
 use Rattle.slices.specs.First.{firstWhere}
-use Rattle.lloyd_search.specs.Answers.{codebookShaped, bounded}
+use Rattle.lloyd_search.specs.Answers.{codebookShaped}
+use Rattle.slices.specs.Limit.{bounded}
 
 -- the first value that is not finite
 abbrev pub firstNotFinite : List Float → First

@@ -11,6 +11,7 @@ ghost use Rattle.lloyd_search.specs.Distance.{rowOf};
 ghost use Rattle.codebook.specs.Codebook.{firstNotFinite, codewordAlone, codewordsAlone};
 use error::Checked;
 use error::Refusal;
+use error::names;
 use slices::First;
 
 // The bits of +infinity.
@@ -94,10 +95,10 @@ pub fn codeword(
     ensures { λ r. ⌜ now (output .exit) ≡ ifCompleted (codewordAlone «codebook_size» «block_dim» (now (codewords .entry)) index (length (now (output .entry)))) (tabulate «block_dim» (rowOf «block_dim» (now (codewords .entry)) index)) (now (output .entry)) ⌝ }
 {
     if !lloyd_search::codebook_shaped(codebook_size, block_dim, codewords.len()) {
-        return Checked::Refused(Refusal::SliceLength(4));
+        return Checked::Refused(Refusal::SliceLength(names::CODEWORDS_SLICE));
     }
     if output.len() as u64 != block_dim {
-        return Checked::Refused(Refusal::SliceLength(6));
+        return Checked::Refused(Refusal::SliceLength(names::OUTPUT_SLICE));
     }
     if index as u64 >= codebook_size {
         return Checked::Refused(Refusal::IndexOutOfRange {
@@ -115,12 +116,12 @@ pub fn check_codewords(codewords: &[f32], codebook_size: u64, block_dim: u64) ->
     ensures { λ r. ⌜ checked r ≡ codewordsAlone «codebook_size» «block_dim» (now (codewords .entry)) ⌝ }
 {
     if !lloyd_search::codebook_shaped(codebook_size, block_dim, codewords.len()) {
-        return Checked::Refused(Refusal::SliceLength(4));
+        return Checked::Refused(Refusal::SliceLength(names::CODEWORDS_SLICE));
     }
     let bad = first_not_finite(codewords);
     if let First::At(place) = bad {
         return Checked::Refused(Refusal::OutOfBounds {
-            slice: 4,
+            slice: names::CODEWORDS_SLICE,
             place: place as u64,
         });
     }

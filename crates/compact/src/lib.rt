@@ -8,6 +8,7 @@ ghost use Rattle.error.specs.Numbers.{checked, ifCompleted};
 ghost use Rattle.compact.specs.Frame.{header, frameOf, packedLength, magicIn, countIn, normLengthIn, parsed, writing, outcomeOf, Within};
 use error::Checked;
 use error::Refusal;
+use error::names;
 
 // The bytes before the norm.
 const HEADER_LENGTH: usize = 11;
@@ -73,11 +74,11 @@ pub fn write_compact(
 {
     let norm_len = norm.len();
     if 65535 < norm_len {
-        return Checked::Refused(Refusal::SliceLength(11));
+        return Checked::Refused(Refusal::SliceLength(names::NORM_SLICE));
     }
     let start = HEADER_LENGTH + norm_len;
     if output.len() != start + indices.len() {
-        return Checked::Refused(Refusal::SliceLength(6));
+        return Checked::Refused(Refusal::SliceLength(names::OUTPUT_SLICE));
     }
     write_header(width, count, norm_len as u16, output);
     write_part(norm, output, HEADER_LENGTH);
@@ -133,23 +134,23 @@ pub fn parse_compact(bytes: &[u8]) -> Parsed
 {
     let len = bytes.len();
     if len < HEADER_LENGTH {
-        return Parsed::Refused(Refusal::CompactFrame(1));
+        return Parsed::Refused(Refusal::CompactFrame(names::SHORT_FRAME_SITE));
     }
     if !has_magic(bytes) {
-        return Parsed::Refused(Refusal::CompactFrame(2));
+        return Parsed::Refused(Refusal::CompactFrame(names::FRAME_MAGIC_SITE));
     }
     if bytes[3] != 0x01 {
-        return Parsed::Refused(Refusal::CompactFrame(3));
+        return Parsed::Refused(Refusal::CompactFrame(names::FRAME_VERSION_SITE));
     }
     let bits = bytes[4];
     let block_count = read_count(bytes);
     let norm_len = read_norm_len(bytes);
     let start = HEADER_LENGTH + norm_len as usize;
     if len < start {
-        return Parsed::Refused(Refusal::CompactFrame(4));
+        return Parsed::Refused(Refusal::CompactFrame(names::NORM_CUT_OFF_SITE));
     }
     if len - start != packed_length(bits, block_count) {
-        return Parsed::Refused(Refusal::CompactFrame(5));
+        return Parsed::Refused(Refusal::CompactFrame(names::INDEX_LENGTH_SITE));
     }
     Parsed::Frame(CompactFrame {
         width: bits,

@@ -9,7 +9,7 @@ use lib.ListN.{length, getD}
 use lib.Ieee.{Float, nan}
 use lib.Ieee.Scale.{finite}
 use borrow.Author.Tests.{not-false, ltb-true, eqb-true}
-use Rattle.error.specs.Numbers.{Outcome, Value, completed, refused, whole, also, andThen}
+use Rattle.error.specs.Numbers.{Outcome, Value, completed, refused, whole, also, andThen, ofLength}
 use Rattle.error.proofs.Refusals.{also-first, also-next}
 use Rattle.ieee.specs.Bounds.{Upto}
 use Rattle.slices.specs.declared.First.{First}
@@ -24,7 +24,6 @@ use Rattle.profile.specs.declared.FibQuantProfile.{FibQuantProfile}
 use Rattle.profile.specs.Valid.{validity}
 use Rattle.profile.specs.Facts.{Valid}
 use Rattle.profile.proofs.Facts as profile-facts
-use Rattle.rotation.specs.Apply.{ofLength}
 use Rattle.lloyd_search.proofs.AnswersLaw.{passed-check, passed-bounded, completed-same}
 use Rattle.lloyd_search.proofs.LimitLaw.{all-within}
 use Rattle.codebook.specs.Codebook.{firstNotFinite}

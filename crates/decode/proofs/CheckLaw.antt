@@ -6,14 +6,14 @@ use lib.ListN.{length}
 use lib.Ieee.{Float}
 use borrow.Author.Tests.{eq-eqb, ne-eqb}
 use Rattle.error.specs.declared.Refusal.{Refusal}
-use Rattle.error.specs.Numbers.{Outcome, completed, refused, whole, refusal, also, andThen, ifCompleted}
+use Rattle.error.specs.Numbers.{Outcome, completed, refused, whole, refusal, also, andThen, ifCompleted, accepted, contents}
 use Rattle.error.proofs.Refusals.{by-refusal, also-refused, also-then}
 use Rattle.bitpack.specs.Layout.{paddingFrom}
 use Rattle.compact.specs.Frame.{Parts, parsed}
 use Rattle.profile.specs.declared.FibQuantProfile.{FibQuantProfile}
 use Rattle.profile.specs.Valid.{validity}
 use Rattle.norm.specs.Norm.{normValue}
-use Rattle.decode.specs.Decode.{lengths, values, below, indicesOf, indexed, readable, decodable, valued, decoding, accepted, contents}
+use Rattle.decode.specs.Decode.{lengths, values, below, indicesOf, indexed, readable, decodable, valued, decoding}
 
 -- ---- header, padding, indices
 module _ (bits blocks n : ℕ) (parts : Parts) where

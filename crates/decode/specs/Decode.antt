@@ -8,20 +8,19 @@ use lib.IntN.{pos}
 use lib.ListN.{length, getD}
 use lib.Ieee.{Float, nan, fin, binary32, binary64, mul}
 use Rattle.error.specs.Names.{codewordsSlice, floatWorkSlice, matrixSlice, outputSlice, paddingBitSite}
-use Rattle.error.specs.Numbers.{Outcome, completed, refused, whole, andThen, also}
+use Rattle.error.specs.Numbers.{Outcome, completed, refused, whole, andThen, also, ofLength}
 use Rattle.slices.specs.declared.First.{First}
 use Rattle.slices.specs.declared.First.the-variants.{Nowhere, At}
 use Rattle.slices.specs.First.{firstWhere}
 use Rattle.slices.specs.Lists.{tabulate}
-use Rattle.slices.specs.Limit.{firstOutside}
+use Rattle.slices.specs.Limit.{firstOutside, bounded}
 use Rattle.narrow.specs.Pack.{narrowTo}
 use Rattle.bitpack.specs.Layout.{unpackedIndices, paddingFrom}
 use Rattle.compact.specs.Frame.{Parts, parsed}
 use Rattle.profile.specs.declared.FibQuantProfile.{FibQuantProfile}
 use Rattle.profile.specs.Valid.{validity}
-use Rattle.rotation.specs.Apply.{appliedInverse, ofLength}
+use Rattle.rotation.specs.Apply.{appliedInverse}
 use Rattle.lloyd_search.specs.Distance.{rowOf}
-use Rattle.lloyd_search.specs.Answers.{bounded}
 use Rattle.codebook.specs.Codebook.{firstNotFinite}
 use Rattle.norm.specs.Norm.{normValue}
 
@@ -112,13 +111,3 @@ valued p matrix codewords parts norm = onlyFinite (decoded (p .«ambient_dim») 
 abbrev pub decoding : FibQuantProfile → List ℕ → List ℕ → Float → List Float → List Float → ℕ → ℕ → List ℕ → Outcome (List Float)
 decoding p schema algorithm log2 matrix codewords output work bytes =
     andThen (parsed bytes) (λ parts. andThen (readable p schema algorithm log2 matrix codewords output work parts) (valued p matrix codewords parts))
-
--- ---- the answer, and what the output holds afterwards
-
-abbrev pub accepted : {A : Type 0} → Outcome A → Outcome Unit
-accepted (completed x) = completed tt
-accepted (refused n v) = refused n v
-
-abbrev pub contents : {A : Type 0} → Outcome (List A) → List A → List A
-contents (completed xs) old = xs
-contents (refused n v) old = old

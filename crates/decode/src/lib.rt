@@ -5,6 +5,7 @@ use compact::CompactFrame;
 use compact::Parsed;
 use error::Checked;
 use error::Refusal;
+use error::names;
 use norm::NormValue;
 use profile::FibQuantProfile;
 use slices::First;
@@ -14,7 +15,7 @@ ghost use mathlib.Core.Bool.{not};
 ghost use lib.ListN.{length, getD, replicate};
 ghost use lib.Ieee.{nan, binary32, binary64, mul};
 ghost use lib.Ieee.Scale.{finite};
-ghost use Rattle.error.specs.Numbers.{checked, completed, ifCompleted};
+ghost use Rattle.error.specs.Numbers.{checked, completed, ifCompleted, accepted, contents};
 ghost use Rattle.ieee.specs.Sum.{plusZero};
 ghost use Rattle.slices.specs.First.{firstWhere, orAt};
 ghost use Rattle.slices.specs.Lists.{tabulate, patched};
@@ -23,7 +24,7 @@ ghost use Rattle.bitpack.specs.Layout.{indexAt, unpackedIndices};
 ghost use Rattle.compact.specs.Frame.{parsed, partsOf};
 ghost use Rattle.norm.specs.Norm.{valueOf};
 ghost use Rattle.decode.specs.Work.{Binary32, Reconstructible};
-ghost use Rattle.decode.specs.Decode.{rotatedAt, decoded, lengths, values, below, indexed, onlyFinite, readable, decodable, decoding, accepted, contents};
+ghost use Rattle.decode.specs.Decode.{rotatedAt, decoded, lengths, values, below, indexed, onlyFinite, readable, decodable, decoding};
 
 // The most that a value of the matrix may be in size: 2^20.
 const MATRIX_LIMIT: f64 = 1_048_576.0;
@@ -45,16 +46,16 @@ fn check_lengths(
     ensures { λ r. ⌜ checked r ≡ lengths d k n matrix codewords output work ⌝ }
 {
     if matrix != d * d {
-        return Checked::Refused(Refusal::SliceLength(3));
+        return Checked::Refused(Refusal::SliceLength(names::MATRIX_SLICE));
     }
     if codewords != n * k {
-        return Checked::Refused(Refusal::SliceLength(4));
+        return Checked::Refused(Refusal::SliceLength(names::CODEWORDS_SLICE));
     }
     if output != d {
-        return Checked::Refused(Refusal::SliceLength(6));
+        return Checked::Refused(Refusal::SliceLength(names::OUTPUT_SLICE));
     }
     if work != 2 * d {
-        return Checked::Refused(Refusal::SliceLength(7));
+        return Checked::Refused(Refusal::SliceLength(names::FLOAT_WORK_SLICE));
     }
     Checked::Accepted
 }
@@ -66,14 +67,14 @@ pub fn check_values(matrix: &[f64], codewords: &[f32]) -> Checked
     let bad = codebook::first_not_finite(codewords);
     if let First::At(place) = bad {
         return Checked::Refused(Refusal::OutOfBounds {
-            slice: 4,
+            slice: names::CODEWORDS_SLICE,
             place: place as u64,
         });
     }
     let bad = slices::first_outside(matrix, MATRIX_LIMIT);
     if let First::At(place) = bad {
         return Checked::Refused(Refusal::OutOfBounds {
-            slice: 3,
+            slice: names::MATRIX_SLICE,
             place: place as u64,
         });
     }
@@ -115,7 +116,7 @@ fn check_indices(bits: u8, blocks: u32, n: u32, bytes: &[u8], frame: CompactFram
     let indices = compact::index_part(bytes, frame);
     let spare = bitpack::padding(indices, count as u64 * width as u64);
     if spare != 0 {
-        return Checked::Refused(Refusal::PackedIndices(3));
+        return Checked::Refused(Refusal::PackedIndices(names::PADDING_BIT_SITE));
     }
     check_below(indices, width, count as usize, n)
 }

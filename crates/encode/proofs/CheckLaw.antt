@@ -5,11 +5,11 @@ use mathlib.Core.List.{List}
 use lib.ListN.{length}
 use lib.Ieee.{Float}
 use Rattle.error.specs.declared.Refusal.{Refusal}
-use Rattle.error.specs.Numbers.{Outcome, completed, refused, refusal, also, andThen, ifCompleted}
+use Rattle.error.specs.Numbers.{Outcome, completed, refused, refusal, also, andThen, ifCompleted, accepted, contents}
 use Rattle.error.proofs.Refusals.{by-refusal, also-refused, also-then}
 use Rattle.profile.specs.declared.FibQuantProfile.{FibQuantProfile}
 use Rattle.profile.specs.Valid.{validity}
-use Rattle.decode.specs.Decode.{values, accepted, contents}
+use Rattle.decode.specs.Decode.{values}
 use Rattle.encode.specs.Encode.{normOf, frameFor, lengths, normed, codable, encoding}
 
 -- ---- the checks, one after another

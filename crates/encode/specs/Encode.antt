@@ -6,7 +6,7 @@ use mathlib.Core.List.{List, [], _∷_}
 use lib.ListN.{length, getD}
 use lib.Ieee.{Float, nan, binary32, binary64, mul, div, eq}
 use Rattle.error.specs.Names.{codewordsSlice, floatWorkSlice, inputSlice, matrixSlice, outputSlice}
-use Rattle.error.specs.Numbers.{Outcome, completed, refused, whole, andThen, also}
+use Rattle.error.specs.Numbers.{Outcome, completed, refused, whole, andThen, also, ofLength}
 use Rattle.ieee.specs.Sum.{plusZero, sumTo}
 use Rattle.slices.specs.declared.First.{First}
 use Rattle.slices.specs.declared.First.the-variants.{Nowhere, At}
@@ -17,7 +17,7 @@ use Rattle.bitpack.specs.Layout.{bytesFor, packedBytes}
 use Rattle.compact.specs.Frame.{bytesOf, frameOf}
 use Rattle.profile.specs.declared.FibQuantProfile.{FibQuantProfile}
 use Rattle.profile.specs.Valid.{validity}
-use Rattle.rotation.specs.Apply.{applied, ofLength}
+use Rattle.rotation.specs.Apply.{applied}
 use Rattle.lloyd_search.specs.Distance.{rowOf}
 use Rattle.lloyd_search.specs.Nearest.{nearest}
 use Rattle.codebook.specs.Codebook.{firstNotFinite}

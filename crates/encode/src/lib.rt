@@ -4,6 +4,7 @@
 use bitpack::BitWriter;
 use error::Checked;
 use error::Refusal;
+use error::names;
 use norm::NormBits;
 use profile::FibQuantProfile;
 use slices::First;
@@ -12,7 +13,7 @@ ghost use mathlib.Core.List.{_++_};
 ghost use Prim.Native.Nat.{_+_, _*_, _/_, _≤_, _<_};
 ghost use lib.ListN.{length, getD, drop, replicate};
 ghost use lib.Ieee.{nan, binary32};
-ghost use Rattle.error.specs.Numbers.{checked, ifCompleted};
+ghost use Rattle.error.specs.Numbers.{checked, ifCompleted, accepted, contents};
 ghost use Rattle.ieee.specs.Sum.{plusZero};
 ghost use Rattle.slices.specs.Lists.{patched};
 ghost use Rattle.narrow.specs.Pack.{narrowTo};
@@ -21,7 +22,6 @@ ghost use Rattle.bitpack.specs.Cursor.{WriterAt};
 ghost use Rattle.compact.specs.Frame.{bytesOf, header, frameOf};
 ghost use Rattle.lloyd_search.specs.Finite.{FiniteValues};
 ghost use Rattle.norm.specs.Norm.{bitsOf};
-ghost use Rattle.decode.specs.Decode.{accepted, contents};
 ghost use Rattle.encode.specs.Encode.{normOf, normalizedAt, searched, indicesFor, lengths, normed, codable, encoding};
 ghost use Rattle.encode.specs.Work.{Searchable, Writable};
 
@@ -41,19 +41,19 @@ fn check_lengths(
     ensures { λ r. ⌜ checked r ≡ lengths d k n bits matrix codewords input output work ⌝ }
 {
     if matrix != d * d {
-        return Checked::Refused(Refusal::SliceLength(3));
+        return Checked::Refused(Refusal::SliceLength(names::MATRIX_SLICE));
     }
     if codewords != n * k {
-        return Checked::Refused(Refusal::SliceLength(4));
+        return Checked::Refused(Refusal::SliceLength(names::CODEWORDS_SLICE));
     }
     if input != d {
-        return Checked::Refused(Refusal::SliceLength(5));
+        return Checked::Refused(Refusal::SliceLength(names::INPUT_SLICE));
     }
     if output != 13 + (d / k * bits + 7) / 8 {
-        return Checked::Refused(Refusal::SliceLength(6));
+        return Checked::Refused(Refusal::SliceLength(names::OUTPUT_SLICE));
     }
     if work != 2 * d {
-        return Checked::Refused(Refusal::SliceLength(7));
+        return Checked::Refused(Refusal::SliceLength(names::FLOAT_WORK_SLICE));
     }
     Checked::Accepted
 }

@@ -1,6 +1,8 @@
 -- The table of refusals: the number of each case, and the values that come back with it. Definitions only.
 use Prim.Native.Nat.{ℕ}
+use mathlib.Core.Bool.{cond}
 use mathlib.Core.List.{List, [], _∷_}
+use lib.Dec.{eqb}
 use lib.Ieee.{Float}
 use Rattle.error.specs.declared.Refusal.{Refusal}
 use Rattle.error.specs.declared.Refusal.the-variants.{ZeroDimension, InvalidBlockDim, DimensionNotDivisible, InvalidCodebookSize, ResourceLimitExceeded, ProfileField, ProfileRate, SliceLength, CompactFrame, PackedIndices, Norm, IndexOutOfRange, NonFiniteInput, ZeroNorm, EmptyCells, NoDonor, NoDirection, CodeHeader, OutOfBounds, EventSlotsUsed, Report}
@@ -60,3 +62,24 @@ also (refused n values) next = refused n values
 abbrev pub ifCompleted : {A B : Type 0} → Outcome A → B → B → B
 ifCompleted (completed x) new old = new
 ifCompleted (refused n values) new old = old
+
+-- a lent slice that has to be `want` elements long, and what comes after it
+abbrev pub ofLength : {A : Type 0} → ℕ → ℕ → ℕ → Outcome A → Outcome A
+ofLength slice want have rest = cond (eqb have want) rest (refused 7 (whole slice ∷ []))
+
+-- the answer of a call whose result is written to a lent buffer
+abbrev pub accepted : {A : Type 0} → Outcome A → Outcome Unit
+accepted (completed x) = completed tt
+accepted (refused n values) = refused n values
+
+-- and what that buffer holds afterwards
+abbrev pub contents : {A : Type 0} → Outcome (List A) → List A → List A
+contents (completed xs) old = xs
+contents (refused n values) old = old
+
+-- what a buffer holds after a job: `before` where a check refuses, `done r` where the job is accepted, `begun` where it is
+-- refused once it has begun
+abbrev pub leaves : {A B : Type 0} → Outcome Unit → Outcome A → B → (A → B) → B → B
+leaves (refused n values) o before done begun = before
+leaves (completed u) (completed r) before done begun = done r
+leaves (completed u) (refused n values) before done begun = begun

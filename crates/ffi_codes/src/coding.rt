@@ -2,9 +2,9 @@
 use ffi_crossing::put_checked;
 ghost use mathlib.Core.Path.{_≡_};
 ghost use lib.ListN.{length, replicate};
-ghost use Rattle.error.specs.Numbers.{ifCompleted};
+ghost use Rattle.error.specs.Numbers.{ifCompleted, accepted, contents};
 ghost use Rattle.ieee.specs.Sum.{plusZero};
-ghost use Rattle.decode.specs.Decode.{decodable, decoding, accepted, contents};
+ghost use Rattle.decode.specs.Decode.{decodable, decoding};
 ghost use Rattle.encode.specs.Encode.{encoding};
 ghost use Rattle.ffi_profile.specs.Profiles.{profileFrom};
 ghost use Rattle.ffi_crossing.specs.Crossing.{found, crossed, none};

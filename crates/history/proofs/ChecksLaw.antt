@@ -13,9 +13,9 @@ use Rattle.error.specs.Numbers.{Value, Outcome, completed, refused, whole}
 use Rattle.slices.specs.declared.First.{First}
 use Rattle.slices.specs.declared.First.the-variants.{Nowhere, At}
 use Rattle.slices.specs.First.{firstWhere}
-use Rattle.slices.specs.Limit.{firstOutside}
+use Rattle.slices.specs.Limit.{firstOutside, bounded}
 use Rattle.slices.proofs.FirstLaw.{none-before}
-use Rattle.lloyd_search.specs.Answers.{codebookShaped, samplesShaped, bounded}
+use Rattle.lloyd_search.specs.Answers.{codebookShaped, samplesShaped}
 use Rattle.lloyd_update.specs.Alone.{Call, updateLimit, assigned, valueChecks, updateChecks}
 
 -- ---- one check after another

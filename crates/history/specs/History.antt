@@ -12,7 +12,8 @@ use Rattle.profile.specs.declared.EmptyCellPolicy.{EmptyCellPolicy}
 use Rattle.lloyd_events.specs.declared.LloydRepairEvent.{LloydRepairEvent}
 use Rattle.lloyd_cells.specs.Cells.{countTo, total}
 use Rattle.lloyd_cells.specs.Repair.{Repaired}
-use Rattle.lloyd_update.specs.Alone.{Call, updateOf, updateAlone, wordsOf, codebookAfter, slotsAfter}
+use Rattle.lloyd_update.specs.Alone.{Call, updateOf, updateAlone, codebookAfter, slotsAfter}
+use Rattle.slices.specs.Lists.{wordsOf}
 
 -- ---- a history
 -- all that a call is given but the codebook; what stands in work and event slots is free

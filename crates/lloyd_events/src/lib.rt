@@ -18,6 +18,9 @@ pub struct LloydRepairEvent {
     pub split_epsilon: f64,
 }
 
+// The most slots that can be lent.
+pub const MAX_EVENT_SLOTS: usize = 1_048_576;
+
 // The event whose members are all zero.
 pub fn zero_event() -> LloydRepairEvent
     ensures { λ r. ⌜ r ≡ zeroEvent ⌝ }

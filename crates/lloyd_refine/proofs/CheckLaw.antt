@@ -12,11 +12,10 @@ use Rattle.error.specs.Numbers.{Outcome, completed, whole, also, refusal}
 use Rattle.error.proofs.Refusals.{also-first, also-next, also-refused, also-then}
 use Rattle.slices.specs.declared.First.{First}
 use Rattle.slices.specs.declared.First.the-variants.{Nowhere, At}
-use Rattle.slices.specs.Limit.{firstOutside}
+use Rattle.slices.specs.Limit.{firstOutside, bounded}
 use Rattle.profile.specs.Facts.{Valid}
 use Rattle.profile.specs.Valid.{validity}
 use Rattle.profile.proofs.Facts as profile-facts
-use Rattle.lloyd_search.specs.Answers.{bounded}
 use Rattle.lloyd_search.proofs.AnswersLaw.{passed-check}
 use Rattle.lloyd_refine.specs.Refine.{Job, sizeOf, dimOf, countOf, restartsOf, refineLimit, lengthChecks, valueChecks, refineChecks}
 

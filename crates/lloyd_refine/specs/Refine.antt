@@ -7,14 +7,13 @@ use lib.IntN.{pos}
 use lib.ListN.{length, getD, replicate, take, drop}
 use lib.Ieee.{Float, fin, nan, binary32, lt}
 use Rattle.error.specs.Names.{codewordsSlice, eventSlice, floatWorkSlice, initialSlice, integerWorkSlice, matrixSlice, samplesSlice}
-use Rattle.error.specs.Numbers.{Outcome, completed, refused, andThen, also, whole}
-use Rattle.slices.specs.Limit.{firstOutside}
-use Rattle.slices.specs.Lists.{tabulate}
+use Rattle.error.specs.Numbers.{Outcome, completed, refused, andThen, also, whole, leaves}
+use Rattle.slices.specs.Limit.{firstOutside, bounded}
+use Rattle.slices.specs.Lists.{tabulate, wordsOf}
 use Rattle.narrow.specs.Pack.{narrowTo}
 use Rattle.profile.specs.declared.FibQuantProfile.{FibQuantProfile}
 use Rattle.profile.specs.Valid.{validity}
 use Rattle.rotation.specs.Apply.{appliedAt}
-use Rattle.lloyd_search.specs.Answers.{bounded}
 use Rattle.lloyd_search.specs.Distance.{rowOf}
 use Rattle.lloyd_search.specs.Nearest.{meanError}
 use Rattle.lloyd_events.specs.declared.LloydRepairEvent.{LloydRepairEvent}
@@ -22,7 +21,6 @@ use Rattle.lloyd_events.specs.Events.{zeroEvent}
 use Rattle.lloyd_cells.specs.Repair.{Terms, Repaired}
 use Rattle.lloyd_cells.specs.Update.{updated}
 use Rattle.lloyd_round.specs.Round.{cellOf}
-use Rattle.lloyd_update.specs.Alone.{leaves, wordsOf}
 
 -- ---- what a refinement is given, but the contents of the buffers that it writes; of these the lengths
 pub record Job : Type 0 where

@@ -8,11 +8,10 @@ ghost use lib.ListN.{length, getD, take, replicate};
 ghost use lib.Ieee.{nan, binary32, lt};
 ghost use Rattle.error.specs.Numbers.{completed, checked};
 ghost use Rattle.ieee.specs.Sum.{plusZero};
-ghost use Rattle.slices.specs.Limit.{firstOutside};
+ghost use Rattle.slices.specs.Limit.{firstOutside, bounded};
 ghost use Rattle.slices.specs.Lists.{tabulate, patched};
 ghost use Rattle.narrow.specs.Pack.{narrowTo};
 ghost use Rattle.profile.specs.Facts.{Valid};
-ghost use Rattle.lloyd_search.specs.Answers.{bounded};
 ghost use Rattle.lloyd_search.specs.Distance.{rowOf};
 ghost use Rattle.lloyd_search.specs.Nearest.{meanError};
 ghost use Rattle.lloyd_events.specs.declared.LloydRepairEvent.{LloydRepairEvent};
@@ -25,6 +24,7 @@ ghost use Rattle.lloyd_refine.specs.Standing.{jobOf, InRound, Matches};
 ghost use Rattle.lloyd_refine.specs.Steps.{isReport, reportIn, withBest, Paused, Stands, ReadyIn};
 use error::Checked;
 use error::Refusal;
+use error::names;
 use lloyd_cells::Places;
 use lloyd_events::LloydRepairEvent;
 use lloyd_repair::Numbers;
@@ -107,25 +107,25 @@ fn check_lengths(
     let count = profile.training_samples as usize;
     let later = profile.lloyd_restarts as usize - 1;
     if initial.len() != n * k {
-        return Checked::Refused(Refusal::SliceLength(1));
+        return Checked::Refused(Refusal::SliceLength(names::INITIAL_SLICE));
     }
     if samples.len() != count * k {
-        return Checked::Refused(Refusal::SliceLength(2));
+        return Checked::Refused(Refusal::SliceLength(names::SAMPLES_SLICE));
     }
     if matrices.len() != later * (k * k) {
-        return Checked::Refused(Refusal::SliceLength(3));
+        return Checked::Refused(Refusal::SliceLength(names::MATRIX_SLICE));
     }
     if codewords != n * k {
-        return Checked::Refused(Refusal::SliceLength(4));
+        return Checked::Refused(Refusal::SliceLength(names::CODEWORDS_SLICE));
     }
     if floats != 4 * (n * k) + 2 * n {
-        return Checked::Refused(Refusal::SliceLength(7));
+        return Checked::Refused(Refusal::SliceLength(names::FLOAT_WORK_SLICE));
     }
     if integers != n + count {
-        return Checked::Refused(Refusal::SliceLength(8));
+        return Checked::Refused(Refusal::SliceLength(names::INTEGER_WORK_SLICE));
     }
     if MAX_EVENT_SLOTS < slots {
-        return Checked::Refused(Refusal::SliceLength(9));
+        return Checked::Refused(Refusal::SliceLength(names::EVENT_SLICE));
     }
     Checked::Accepted
 }
@@ -173,9 +173,9 @@ pub fn check_refine(
         integers,
         slots,
     );
-    let first = check_values(1, initial);
-    let second = check_values(2, samples);
-    let third = check_values(3, matrices);
+    let first = check_values(names::INITIAL_SLICE, initial);
+    let second = check_values(names::SAMPLES_SLICE, samples);
+    let third = check_values(names::MATRIX_SLICE, matrices);
     profile::checks::also(
         sized,
         profile::checks::also(first, profile::checks::also(second, third)),
@@ -381,19 +381,19 @@ pub fn validate_against_profile(
     ensures { λ r. ⌜ checked r ≡ reportTest report (now (schema .entry)) profile ⌝ }
 {
     if !profile::checks::same(schema, b"lloyd_report_v1") {
-        return Checked::Refused(Refusal::Report(1));
+        return Checked::Refused(Refusal::Report(names::SETTINGS_SITE));
     }
     if !same_settings(report, profile) {
-        return Checked::Refused(Refusal::Report(1));
+        return Checked::Refused(Refusal::Report(names::SETTINGS_SITE));
     }
     if !profile::checks::is_finite(report.init_mse) {
-        return Checked::Refused(Refusal::Report(2));
+        return Checked::Refused(Refusal::Report(names::MSE_SITE));
     }
     if !profile::checks::is_finite(report.best_mse) {
-        return Checked::Refused(Refusal::Report(2));
+        return Checked::Refused(Refusal::Report(names::MSE_SITE));
     }
     if report.empty_cells_repaired != report.events_used {
-        return Checked::Refused(Refusal::Report(3));
+        return Checked::Refused(Refusal::Report(names::REPAIR_COUNT_SITE));
     }
     Checked::Accepted
 }

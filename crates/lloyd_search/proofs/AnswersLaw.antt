@@ -15,12 +15,12 @@ use Rattle.ieee.specs.Bounds.{Upto}
 use Rattle.error.specs.Numbers.{Outcome, Value, completed, refused, whole}
 use Rattle.slices.specs.declared.First.{First}
 use Rattle.slices.specs.declared.First.the-variants.{Nowhere, At}
-use Rattle.slices.specs.Limit.{firstOutside}
+use Rattle.slices.specs.Limit.{firstOutside, bounded}
 use Rattle.lloyd_search.specs.declared.Found.{Found}
 use Rattle.lloyd_search.specs.Distance.{distance, vectorOf, rowOf}
 use Rattle.lloyd_search.specs.Nearest.{nearest, meanError, Least}
 use Rattle.lloyd_search.specs.Finite.{FiniteNearest, FiniteTotals, FiniteMean}
-use Rattle.lloyd_search.specs.Answers.{codebookShaped, samplesShaped, bounded, searchLimit, nearestAlone, meanErrorAlone}
+use Rattle.lloyd_search.specs.Answers.{codebookShaped, samplesShaped, searchLimit, nearestAlone, meanErrorAlone}
 use Rattle.lloyd_search.proofs.Parts.{row-place}
 use Rattle.lloyd_search.proofs.ShapeLaw.{Codebook, Samples, codebook-shape, samples-shape, some-sample}
 use Rattle.lloyd_search.proofs.LimitLaw.{all-within}

@@ -8,9 +8,7 @@ use lib.ListN.{length}
 use lib.Ieee.{Float, fin}
 use Rattle.error.specs.Names.{codewordsSlice, inputSlice, samplesSlice}
 use Rattle.error.specs.Numbers.{Outcome, completed, refused, refusal, whole}
-use Rattle.slices.specs.declared.First.{First}
-use Rattle.slices.specs.declared.First.the-variants.{Nowhere, At}
-use Rattle.slices.specs.Limit.{firstOutside}
+use Rattle.slices.specs.Limit.{firstOutside, bounded}
 use Rattle.lloyd_search.specs.declared.Found.{Found}
 use Rattle.lloyd_search.specs.declared.NearestCodeword.{NearestCodeword}
 use Rattle.lloyd_search.specs.declared.NearestCodeword.the-variants.{Nearest, Refused}
@@ -26,11 +24,6 @@ codebookShaped n k values = leb 1 k && (leb k 256 && (leb 1 n && (leb n 1048576 
 -- up to ten million whole samples of k coordinates, for a k above 0
 abbrev pub samplesShaped : ℕ → ℕ → Bool
 samplesShaped k values = eqb (values % k) 0 && leb (values / k) 10000000
-
--- 18 at the first value that is not finite or too large
-abbrev pub bounded : {A : Type 0} → ℕ → First → Outcome A → Outcome A
-bounded slice Nowhere rest = rest
-bounded slice (At place) rest = refused 18 (whole slice ∷ whole place ∷ [])
 
 -- 2 ^ 128
 abbrev pub searchLimit : Float

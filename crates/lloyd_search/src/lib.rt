@@ -11,6 +11,7 @@ ghost use Rattle.lloyd_search.specs.Finite.{FiniteValues};
 ghost use Rattle.lloyd_search.specs.Watch.{Watches, Near, Small};
 ghost use Rattle.lloyd_search.specs.Answers.{codebookShaped, samplesShaped, nearestAlone, meanErrorAlone, nearestOf, errorOf};
 use error::Refusal;
+use error::names;
 use slices::First;
 
 // A codeword's number and its distance.
@@ -495,10 +496,10 @@ pub fn nearest_index(
     ensures { λ r. ⌜ nearestOf r ≡ nearestAlone «codebook_size» «block_dim» (now (codewords .entry)) (now (block .entry)) ⌝ }
 {
     if !codebook_shaped(codebook_size, block_dim, codewords.len()) {
-        return NearestCodeword::Refused(Refusal::SliceLength(4));
+        return NearestCodeword::Refused(Refusal::SliceLength(names::CODEWORDS_SLICE));
     }
     if block.len() as u64 != block_dim {
-        return NearestCodeword::Refused(Refusal::SliceLength(5));
+        return NearestCodeword::Refused(Refusal::SliceLength(names::INPUT_SLICE));
     }
     let seen = search_near(codewords, codebook_size as usize, block);
     let best = seen.best;
@@ -508,14 +509,14 @@ pub fn nearest_index(
     let bad = slices::first_outside(block, SEARCH_LIMIT);
     if let First::At(place) = bad {
         return NearestCodeword::Refused(Refusal::OutOfBounds {
-            slice: 5,
+            slice: names::INPUT_SLICE,
             place: place as u64,
         });
     }
     let bad = slices::first_outside(codewords, SEARCH_LIMIT);
     if let First::At(place) = bad {
         return NearestCodeword::Refused(Refusal::OutOfBounds {
-            slice: 4,
+            slice: names::CODEWORDS_SLICE,
             place: place as u64,
         });
     }
@@ -551,10 +552,10 @@ pub fn mse_for_codebook(
     ensures { λ r. ⌜ errorOf r ≡ meanErrorAlone «codebook_size» «block_dim» (now (codewords .entry)) (now (samples .entry)) ⌝ }
 {
     if !codebook_shaped(codebook_size, block_dim, codewords.len()) {
-        return CodebookError::Refused(Refusal::SliceLength(4));
+        return CodebookError::Refused(Refusal::SliceLength(names::CODEWORDS_SLICE));
     }
     if !samples_shaped(block_dim, samples.len()) {
-        return CodebookError::Refused(Refusal::SliceLength(2));
+        return CodebookError::Refused(Refusal::SliceLength(names::SAMPLES_SLICE));
     }
     if samples.len() == 0 {
         return CodebookError::Refused(Refusal::ZeroDimension);
@@ -562,14 +563,14 @@ pub fn mse_for_codebook(
     let bad = slices::first_outside(samples, SEARCH_LIMIT);
     if let First::At(place) = bad {
         return CodebookError::Refused(Refusal::OutOfBounds {
-            slice: 2,
+            slice: names::SAMPLES_SLICE,
             place: place as u64,
         });
     }
     let bad = slices::first_outside(codewords, SEARCH_LIMIT);
     if let First::At(place) = bad {
         return CodebookError::Refused(Refusal::OutOfBounds {
-            slice: 4,
+            slice: names::CODEWORDS_SLICE,
             place: place as u64,
         });
     }

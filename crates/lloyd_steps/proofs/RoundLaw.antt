@@ -10,7 +10,7 @@ use lib.Seq.{getD-take, length-take-le}
 use lib.Ieee.{Float, nan}
 use borrow.Author.Tests.{lt-ltb, le-ltb}
 use Rattle.error.specs.Numbers.{Outcome, completed, refused, andThen, whole}
-use Rattle.slices.specs.Lists.{patched}
+use Rattle.slices.specs.Lists.{patched, wordsOf}
 use Rattle.slices.proofs.ListLaw.{length-patched, patched-inside, patched-above}
 use Rattle.slices.proofs.TabulateLaw.{length-tabulate, getD-tabulate}
 use Rattle.profile.specs.declared.EmptyCellPolicy.the-variants.{SplitHighestDistortion, FailClosed}
@@ -21,7 +21,6 @@ use Rattle.lloyd_cells.proofs.CellsLaw.{countTo-ext}
 use Rattle.lloyd_cells.proofs.TallyLaw.{tallied, tallied-some}
 use Rattle.lloyd_repair.specs.Running.{Running}
 use Rattle.lloyd_round.specs.Round.{placesOf, numbersOf, Holding, Roomy, AtFirst}
-use Rattle.lloyd_update.specs.Alone.{wordsOf}
 use Rattle.lloyd_refine.specs.declared.RefineState.{RefineState}
 use Rattle.lloyd_refine.specs.Refine.{Job, sizeOf, dimOf, countOf, iterationsOf, roundTerms, roundOf, Trained, afterRound, roundsTo, trainedFrom, Best}
 use Rattle.lloyd_refine.specs.Standing.{roundMeans, roundFar, InRound}

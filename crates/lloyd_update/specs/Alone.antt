@@ -1,5 +1,5 @@
 -- Update called alone: its checks in document 01's order, and what it leaves in every lent buffer. Definitions only.
-use Prim.Native.Nat.{ℕ, _+_, _*_, _/_, _%_}
+use Prim.Native.Nat.{ℕ, _+_, _*_, _/_}
 use mathlib.Core.Bool.{Bool, true, false, not, cond}
 use mathlib.Core.List.{List, [], _∷_, _++_}
 use lib.Dec.{eqb, leb}
@@ -7,16 +7,16 @@ use lib.IntN.{pos}
 use lib.ListN.{length, getD, replicate, drop}
 use lib.Ieee.{Float, fin}
 use Rattle.error.specs.Names.{assignmentSlice, eventSlice, floatWorkSlice, initialSlice, integerWorkSlice, samplesSlice}
-use Rattle.error.specs.Numbers.{Outcome, completed, refused, andThen, whole, refusal}
+use Rattle.error.specs.Numbers.{Outcome, completed, refused, andThen, whole, leaves}
 use Rattle.ieee.specs.Sum.{plusZero}
 use Rattle.slices.specs.declared.First.{First}
 use Rattle.slices.specs.declared.First.the-variants.{Nowhere, At}
 use Rattle.slices.specs.First.{firstWhere}
-use Rattle.slices.specs.Limit.{firstOutside}
-use Rattle.slices.specs.Lists.{tabulate}
+use Rattle.slices.specs.Limit.{firstOutside, bounded}
+use Rattle.slices.specs.Lists.{wordsOf}
 use Rattle.profile.specs.declared.EmptyCellPolicy.{EmptyCellPolicy}
 use Rattle.lloyd_search.specs.Distance.{rowOf}
-use Rattle.lloyd_search.specs.Answers.{codebookShaped, samplesShaped, bounded}
+use Rattle.lloyd_search.specs.Answers.{codebookShaped, samplesShaped}
 use Rattle.lloyd_events.specs.declared.LloydRepairEvent.{LloydRepairEvent}
 use Rattle.lloyd_events.specs.Events.{zeroEvent}
 use Rattle.lloyd_cells.specs.Repair.{Cells, Terms, Repaired}
@@ -75,15 +75,7 @@ updateOf c = updated (termsOf c) (c .policy) (length (c .samples) / c .dim) (row
 abbrev pub updateAlone : Call → Outcome Repaired
 updateAlone c = andThen (updateChecks c) (λ u. updateOf c)
 
--- ---- the buffers afterwards: `before` where a check refuses, `done r` where the job is accepted, `begun` where it is refused once begun
-abbrev pub leaves : {A B : Type 0} → Outcome Unit → Outcome A → B → (A → B) → B → B
-leaves (refused n vs) o before done begun = before
-leaves (completed u) (completed r) before done begun = done r
-leaves (completed u) (refused n vs) before done begun = begun
-
--- n codewords of k coordinates as a list
-abbrev pub wordsOf : ℕ → ℕ → (ℕ → ℕ → Float) → List Float
-wordsOf n k word = tabulate (n * k) (λ i. word (i / k) (i % k))
+-- ---- the buffers afterwards
 
 abbrev pub codebookAfter : Call → List Float
 codebookAfter c = leaves (updateChecks c) (updateOf c) (c .codebook) (λ r. wordsOf (c .size) (c .dim) (r .cells .word)) (c .codebook)

@@ -17,6 +17,7 @@ ghost use Rattle.lloyd_update.specs.Alone.{Call, updateChecks, valueChec
 ghost use Rattle.lloyd_update.specs.Progress.{callOf, placesOf, Addable, Added, Matches, Ready, ReadyAt, Going, Under, Progress, isAccepted};
 use error::Checked;
 use error::Refusal;
+use error::names;
 use lloyd_cells::Places;
 use lloyd_events::LloydRepairEvent;
 use lloyd_repair::Numbers;
@@ -72,22 +73,22 @@ fn check_update(
     let n = t.codebook_size;
     let k = t.block_dim;
     if !lloyd_search::codebook_shaped(n, k, codebook.len()) {
-        return Checked::Refused(Refusal::SliceLength(1));
+        return Checked::Refused(Refusal::SliceLength(names::INITIAL_SLICE));
     }
     if !lloyd_search::samples_shaped(k, samples.len()) {
-        return Checked::Refused(Refusal::SliceLength(2));
+        return Checked::Refused(Refusal::SliceLength(names::SAMPLES_SLICE));
     }
     if floats as u64 != 2 * (n * k) + 2 * n {
-        return Checked::Refused(Refusal::SliceLength(7));
+        return Checked::Refused(Refusal::SliceLength(names::FLOAT_WORK_SLICE));
     }
     if integers as u64 != n {
-        return Checked::Refused(Refusal::SliceLength(8));
+        return Checked::Refused(Refusal::SliceLength(names::INTEGER_WORK_SLICE));
     }
     if MAX_EVENT_SLOTS < slots {
-        return Checked::Refused(Refusal::SliceLength(9));
+        return Checked::Refused(Refusal::SliceLength(names::EVENT_SLICE));
     }
     if assignments.len() as u64 != samples.len() as u64 / k {
-        return Checked::Refused(Refusal::SliceLength(10));
+        return Checked::Refused(Refusal::SliceLength(names::ASSIGNMENT_SLICE));
     }
     check_values(codebook, samples, assignments, n)
 }
@@ -100,14 +101,14 @@ fn check_values(codebook: &[f64], samples: &[f64], assignments: &[u32], n: u64) 
     let bad = slices::first_outside(codebook, UPDATE_LIMIT);
     if let First::At(place) = bad {
         return Checked::Refused(Refusal::OutOfBounds {
-            slice: 1,
+            slice: names::INITIAL_SLICE,
             place: place as u64,
         });
     }
     let bad = slices::first_outside(samples, UPDATE_LIMIT);
     if let First::At(place) = bad {
         return Checked::Refused(Refusal::OutOfBounds {
-            slice: 2,
+            slice: names::SAMPLES_SLICE,
             place: place as u64,
         });
     }

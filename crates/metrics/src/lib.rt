@@ -1,5 +1,6 @@
 // The mean squared error of two vectors. specs/Mse.antt says what comes out.
 use error::Refusal;
+use error::names;
 ghost use mathlib.Core.Path.{_≡_};
 ghost use lib.ListN.{length};
 ghost use Rattle.metrics.specs.Mse.{squaredError, mseOutcome, meanError};
@@ -16,7 +17,7 @@ pub fn mse(left: &[f32], right: &[f32]) -> MeanError
 {
     let n = left.len();
     if right.len() != n {
-        return MeanError::Refused(Refusal::SliceLength(12));
+        return MeanError::Refused(Refusal::SliceLength(names::RIGHT_SLICE));
     }
     if n == 0 {
         return MeanError::Refused(Refusal::ZeroDimension);

@@ -6,6 +6,7 @@ use crate::RadiusMethod;
 use crate::SourceMode;
 use error::Checked;
 use error::Refusal;
+use error::names;
 ghost use mathlib.Core.Path.{_≡_};
 ghost use Rattle.error.specs.Numbers.{checked};
 ghost use Rattle.error.specs.Numbers as numbers;
@@ -102,9 +103,13 @@ pub fn formats(norm: NormFormat, source: SourceMode) -> Checked
     match norm {
         NormFormat::Fp16Paper => match source {
             SourceMode::CanonicalSphericalBeta => Checked::Accepted,
-            SourceMode::ReferenceGaussianProjection => Checked::Refused(Refusal::ProfileField(3)),
+            SourceMode::ReferenceGaussianProjection => Checked::Refused(Refusal::ProfileField(
+                names::SOURCE_MODE_FIELD,
+            )),
         },
-        NormFormat::F32Reference => Checked::Refused(Refusal::ProfileField(2)),
+        NormFormat::F32Reference => Checked::Refused(Refusal::ProfileField(
+            names::NORM_FORMAT_FIELD,
+        )),
     }
 }
 
@@ -122,7 +127,7 @@ pub fn width(bits: u8, n: u32) -> Checked
     ensures { λ r. ⌜ checked r ≡ valid.widthOf bits n ⌝ }
 {
     if bits != index_width(n as u64) {
-        return Checked::Refused(Refusal::ProfileField(5));
+        return Checked::Refused(Refusal::ProfileField(names::WIRE_BITS_FIELD));
     }
     Checked::Accepted
 }
@@ -253,7 +258,7 @@ pub fn methods(k: u32, radius: RadiusMethod, direction: DirectionMethod) -> Chec
             return Checked::Accepted;
         }
     }
-    Checked::Refused(Refusal::ProfileField(8))
+    Checked::Refused(Refusal::ProfileField(names::METHOD_PAIR_FIELD))
 }
 
 // Restarts, iterations and training samples, of a codebook of n.
@@ -261,13 +266,13 @@ pub fn settings(restarts: u32, iterations: u32, samples: u32, n: u32) -> Checked
     ensures { λ r. ⌜ checked r ≡ valid.settingsOf restarts iterations samples n ⌝ }
 {
     if restarts == 0 || FibQuantProfile::MAX_LLOYD_RESTARTS < restarts {
-        return Checked::Refused(Refusal::ProfileField(9));
+        return Checked::Refused(Refusal::ProfileField(names::RESTARTS_FIELD));
     }
     if iterations == 0 || FibQuantProfile::MAX_LLOYD_ITERATIONS < iterations {
-        return Checked::Refused(Refusal::ProfileField(10));
+        return Checked::Refused(Refusal::ProfileField(names::ITERATIONS_FIELD));
     }
     if samples < n || FibQuantProfile::MAX_TRAINING_SAMPLES < samples {
-        return Checked::Refused(Refusal::ProfileField(11));
+        return Checked::Refused(Refusal::ProfileField(names::SAMPLES_FIELD));
     }
     Checked::Accepted
 }

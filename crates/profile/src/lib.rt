@@ -5,6 +5,7 @@ pub mod checks;
 
 use error::Checked;
 use error::Refusal;
+use error::names;
 ghost use mathlib.Core.Path.{_≡_};
 ghost use Rattle.error.specs.Numbers.{checked};
 ghost use Rattle.profile.specs.Valid.{validity, numbersOf};
@@ -144,11 +145,15 @@ impl FibQuantProfile {
         let norm = self.norm_format;
         let source = self.source_mode;
         let rotation = b"qr-gaussian-chacha8-sign-corrected-v1";
-        let schema_named = checks::named(1, schema, b"fib_quant_profile_v1");
+        let schema_named = checks::named(names::SCHEMA_FIELD, schema, b"fib_quant_profile_v1");
         let shape = checks::shape(d as u64, k as u64, n as u64);
         let sizes = checks::sizes(d, k, n);
         let formats = checks::formats(norm, source);
-        let rotation_named = checks::named(4, rotation_algorithm, rotation);
+        let rotation_named = checks::named(
+            names::ROTATION_ALGORITHM_FIELD,
+            rotation_algorithm,
+            rotation,
+        );
         let numbers = self.numbers(log2);
         let from_formats = checks::also(formats, checks::also(rotation_named, numbers));
         let from_shape = checks::also(shape, checks::also(sizes, from_formats));
@@ -168,8 +173,16 @@ impl FibQuantProfile {
         let iterations = self.lloyd_iterations;
         let samples = self.training_samples;
         let width = checks::width(bits, n);
-        let paper = checks::rate(6, self.paper_rate_bits_per_coord, log2 / k as f64);
-        let wire = checks::rate(7, self.wire_bits_per_coord, bits as f64 / k as f64);
+        let paper = checks::rate(
+            names::PAPER_RATE_FIELD,
+            self.paper_rate_bits_per_coord,
+            log2 / k as f64,
+        );
+        let wire = checks::rate(
+            names::WIRE_RATE_FIELD,
+            self.wire_bits_per_coord,
+            bits as f64 / k as f64,
+        );
         let methods = checks::methods(k, radius, direction);
         let settings = checks::settings(restarts, iterations, samples, n);
         let from_methods = checks::also(methods, settings);

@@ -24,7 +24,8 @@ use Rattle.lloyd_cells.specs.Repair.{Cells, Terms, Repaired, donorTo, leastNorm
 use Rattle.lloyd_cells.specs.Update.{means, farthestSample, failsClosed, emptyCells, updated}
 use Rattle.lloyd_cells.proofs.TallyLaw.{then-completed, splitBy}
 use Rattle.lloyd_round.specs.Round.{nearestCells, cellOf}
-use Rattle.lloyd_update.specs.Alone.{Call, updateLimit, valueChecks, updateChecks, updateOf, updateAlone, wordsOf, codebookAfter}
+use Rattle.lloyd_update.specs.Alone.{Call, updateLimit, valueChecks, updateChecks, updateOf, updateAlone, codebookAfter}
+use Rattle.slices.specs.Lists.{wordsOf}
 use Rattle.lloyd_refine.specs.Refine.{Job, sizeOf, dimOf, countOf, roundTerms, roundOf, Trained}
 use Rattle.history.specs.History.{callWith}
 use Rattle.history.proofs.ChecksLaw.{cond-passed}

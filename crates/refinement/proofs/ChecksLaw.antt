@@ -15,7 +15,7 @@ use Rattle.error.specs.Numbers.{Value, Outcome, completed, refused, also, whole
 use Rattle.error.proofs.Refusals.{also-first, also-next}
 use Rattle.slices.specs.declared.First.{First}
 use Rattle.slices.specs.declared.First.the-variants.{Nowhere, At}
-use Rattle.slices.specs.Limit.{firstOutside}
+use Rattle.slices.specs.Limit.{firstOutside, bounded}
 use Rattle.profile.specs.declared.NormFormat.{NormFormat}
 use Rattle.profile.specs.declared.SourceMode.{SourceMode}
 use Rattle.profile.specs.declared.RadiusMethod.{RadiusMethod}
@@ -25,7 +25,6 @@ use Rattle.profile.specs.Tests.{profileSchema, rotationAlgorithm, sameBytes, is
 use Rattle.profile.specs.Valid.{named, shapeOf, sizesOf, formatsOf, widthOf, rateOf, ratesOf, methodsOf, settingsOf, numbersOf, perCoord, validity}
 use Rattle.profile.specs.Facts.{Valid}
 use Rattle.profile.proofs.Facts.{valid}
-use Rattle.lloyd_search.specs.Answers.{bounded}
 use Rattle.lloyd_search.proofs.AnswersLaw.{passed-check, passed-bounded}
 use Rattle.lloyd_refine.specs.Refine.{Job, sizeOf, dimOf, countOf, restartsOf, refineLimit, lengthChecks, valueChecks, refineChecks}
 

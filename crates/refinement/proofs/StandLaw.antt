@@ -21,7 +21,8 @@ use Rattle.lloyd_search.specs.Distance.{rowOf}
 use Rattle.lloyd_search.proofs.Parts.{row-place}
 use Rattle.lloyd_search.proofs.LimitLaw.{power, all-within}
 use Rattle.lloyd_search.proofs.FiniteLaw.{Bounded}
-use Rattle.lloyd_update.specs.Alone.{updateLimit, wordsOf}
+use Rattle.lloyd_update.specs.Alone.{updateLimit}
+use Rattle.slices.specs.Lists.{wordsOf}
 use Rattle.lloyd_refine.specs.Refine.{Job, sizeOf, dimOf, restartsOf, matrixOf, initialWord, rotated, startOf}
 use Rattle.refinement.proofs.ChecksLaw.{Checked}
 use Rattle.lloyd_search.proofs.WithinLaw.{all-upto, wider}

@@ -9,6 +9,7 @@ use compact::CompactFrame;
 use compact::Parsed;
 use error::Checked;
 use error::Refusal;
+use error::names;
 
 fn write_into(
     width: u8,
@@ -19,7 +20,7 @@ fn write_into(
     len: usize,
 ) -> Checked {
     if out.len() < len {
-        return Checked::Refused(Refusal::SliceLength(6));
+        return Checked::Refused(Refusal::SliceLength(names::OUTPUT_SLICE));
     }
     compact::write_compact(width, count, norm, indices, &mut out[..len])
 }

@@ -7,10 +7,11 @@ use crate::reader::Reader;
 use crate::same;
 use error::Checked;
 use error::Refusal;
+use error::names;
 
 fn pack_into(indices: &[u32], width: u8, out: &mut [u8], len: usize) -> Checked {
     if out.len() < len {
-        return Checked::Refused(Refusal::SliceLength(6));
+        return Checked::Refused(Refusal::SliceLength(names::OUTPUT_SLICE));
     }
     bitpack::pack_indices(indices, width, &mut out[..len])
 }
@@ -47,7 +48,7 @@ pub fn pack(file: &[u8], r: Reader) -> Verdict {
 
 fn unpack_into(bytes: &[u8], count: u64, width: u8, out: &mut [u32], len: usize) -> Checked {
     if out.len() < len {
-        return Checked::Refused(Refusal::SliceLength(6));
+        return Checked::Refused(Refusal::SliceLength(names::OUTPUT_SLICE));
     }
     bitpack::unpack_indices(bytes, count, width, &mut out[..len])
 }

@@ -8,6 +8,7 @@ use crate::reader::Reader;
 use crate::same;
 use error::Checked;
 use error::Refusal;
+use error::names;
 
 fn rotate_into(
     inverse: bool,
@@ -18,7 +19,7 @@ fn rotate_into(
     len: usize,
 ) -> Checked {
     if out.len() < len {
-        return Checked::Refused(Refusal::SliceLength(6));
+        return Checked::Refused(Refusal::SliceLength(names::OUTPUT_SLICE));
     }
     if inverse {
         return rotation::apply_inverse(dim, matrix, input, &mut out[..len]);

@@ -7,7 +7,7 @@ use lib.Dec.{eqb, ltb}
 use lib.ListN.{getD}
 use lib.Ieee.{Float, nan, binary64, mul}
 use Rattle.error.specs.Names.{inputSlice, matrixSlice, outputSlice}
-use Rattle.error.specs.Numbers.{Outcome, completed, refused, whole}
+use Rattle.error.specs.Numbers.{Outcome, completed, refused, ofLength}
 use Rattle.ieee.specs.Sum.{sumTo}
 use Rattle.slices.specs.Lists.{tabulate}
 
@@ -30,10 +30,6 @@ applied d matrix input = tabulate d (appliedAt d matrix input)
 -- its transpose times the input
 abbrev pub appliedInverse : ℕ → List Float → List Float → List Float
 appliedInverse d matrix input = tabulate d (λ (c : ℕ). columnSum d matrix input c d)
-
--- a slice that has to be `want` values long
-abbrev pub ofLength : ℕ → ℕ → ℕ → Outcome Unit → Outcome Unit
-ofLength slice want have rest = cond (eqb have want) rest (refused 7 (whole slice ∷ []))
 
 -- the checks of d and of the lengths of matrix, input and output, in order
 abbrev pub shape : ℕ → ℕ → ℕ → ℕ → Outcome Unit

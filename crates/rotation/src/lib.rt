@@ -2,6 +2,7 @@
 // specs/Apply.antt says what comes out: sums from +0.0, their terms in order, each operation rounded.
 use error::Checked;
 use error::Refusal;
+use error::names;
 ghost use mathlib.Core.Path.{_≡_};
 ghost use Prim.Native.Nat.{ℕ, _+_, _*_, _≤_};
 ghost use mathlib.Core.List.{_++_};
@@ -56,13 +57,13 @@ fn check_shape(dim: u64, matrix: usize, input: usize, output: usize) -> Checked
         return Checked::Refused(Refusal::ResourceLimitExceeded);
     }
     if matrix as u64 != dim * dim {
-        return Checked::Refused(Refusal::SliceLength(3));
+        return Checked::Refused(Refusal::SliceLength(names::MATRIX_SLICE));
     }
     if input as u64 != dim {
-        return Checked::Refused(Refusal::SliceLength(5));
+        return Checked::Refused(Refusal::SliceLength(names::INPUT_SLICE));
     }
     if output as u64 != dim {
-        return Checked::Refused(Refusal::SliceLength(6));
+        return Checked::Refused(Refusal::SliceLength(names::OUTPUT_SLICE));
     }
     Checked::Accepted
 }

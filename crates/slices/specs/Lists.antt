@@ -1,5 +1,5 @@
 -- Lists by their elements. Definitions only.
-use Prim.Native.Nat.{ℕ, zero, suc, _+_}
+use Prim.Native.Nat.{ℕ, zero, suc, _+_, _*_, _/_, _%_}
 use mathlib.Core.List.{List, [], _∷_, _++_}
 use lib.ListN.{set, drop}
 
@@ -16,3 +16,7 @@ filled n f l = tabulate n f ++ drop n l
 unfoldable pub patched : {A : Type 0} → List A → ℕ → ℕ → (ℕ → A) → List A
 patched xs at zero f = xs
 patched xs at (suc n) f = set (patched xs at n f) (at + n) (f n)
+
+-- n rows of k elements each, one after another
+abbrev pub wordsOf : {A : Type 0} → ℕ → ℕ → (ℕ → ℕ → A) → List A
+wordsOf n k word = tabulate (n * k) (λ i. word (i / k) (i % k))

@@ -9,7 +9,7 @@ use lib.ListN.{length, getD, take, replicate}
 use lib.Seq.{length-take-le, getD-take}
 use lib.Ieee.{Float, nan}
 use Rattle.error.specs.Numbers.{Value, Outcome, completed, refused, andThen}
-use Rattle.slices.specs.Lists.{tabulate}
+use Rattle.slices.specs.Lists.{tabulate, wordsOf}
 use Rattle.slices.proofs.TabulateLaw.{tabulate-is}
 use Rattle.lloyd_events.specs.declared.LloydRepairEvent.{LloydRepairEvent}
 use Rattle.lloyd_events.specs.Events.{zeroEvent}
@@ -19,7 +19,7 @@ use Rattle.lloyd_cells.proofs.TallyLaw.{tallied, tallied-some}
 use Rattle.lloyd_update.specs.declared.Updated.{Updated}
 use Rattle.lloyd_update.specs.declared.Updated.the-variants as updated
 use Rattle.lloyd_update.specs.declared.Step.{Step}
-use Rattle.lloyd_update.specs.Alone.{Call, termsOf, updateChecks, updateOf, updateAlone, wordsOf, codebookAfter, workAfter, slotsAfter}
+use Rattle.lloyd_update.specs.Alone.{Call, termsOf, updateChecks, updateOf, updateAlone, codebookAfter, workAfter, slotsAfter}
 use Rattle.lloyd_update.specs.Progress.{updatedOf, startOf, farOf, Under, Ended, isAccepted}
 use Rattle.lloyd_update.proofs.CheckLaw.{checks-passed}
 use Rattle.lloyd_update.proofs.RepairsLaw.{eventCount, not-completed}

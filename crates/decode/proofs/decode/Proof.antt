@@ -6,7 +6,7 @@ use native.Mathlib.Omega.{arith}
 use lib.ListN.{length, replicate}
 use lib.Ieee.{Float}
 use denote.Ref.{now}
-use Rattle.error.specs.Numbers.{Outcome, completed, refusal, checked, ifCompleted}
+use Rattle.error.specs.Numbers.{Outcome, completed, refusal, checked, ifCompleted, accepted, contents}
 use Rattle.ieee.specs.Sum.{plusZero}
 use Rattle.bitpack.specs.Layout.{bytesFor, indexAt, unpackedIndices}
 use Rattle.compact.specs.declared.CompactFrame.{CompactFrame}
@@ -15,7 +15,7 @@ use Rattle.compact.proofs.FrameLaws.{length-indices}
 use Rattle.profile.specs.declared.FibQuantProfile.{FibQuantProfile}
 use Rattle.lloyd_search.proofs.Parts.{row-fits}
 use Rattle.norm.specs.Norm.{valueOf}
-use Rattle.decode.specs.Decode.{decoded, onlyFinite, readable, decodable, valued, decoding, accepted, contents, indicesOf}
+use Rattle.decode.specs.Decode.{decoded, onlyFinite, readable, decodable, valued, decoding, indicesOf}
 use Rattle.decode.specs.Work.{Reconstructible}
 use Rattle.decode.proofs.CheckLaw.{parse-refused, read-refused, decoding-is, decodable-is}
 use Rattle.decode.proofs.AcceptLaw.{Readable, readable-accepted}

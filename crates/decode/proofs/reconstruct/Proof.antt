@@ -4,12 +4,12 @@ use mathlib.Core.List.{List, [], _∷_}
 use Prim.Native.Nat.{ℕ, _+_, _*_, _≤_, _<_}
 use lib.ListN.{length, replicate}
 use lib.Ieee.{Float}
-use Rattle.error.specs.Numbers.{completed, refused, whole}
+use Rattle.error.specs.Numbers.{completed, refused, whole, accepted, contents}
 use Rattle.ieee.specs.Sum.{plusZero}
 use Rattle.slices.specs.declared.First.the-variants.{Nowhere, At}
 use Rattle.bitpack.specs.Layout.{unpackedIndices}
 use Rattle.codebook.specs.Codebook.{firstNotFinite}
-use Rattle.decode.specs.Decode.{decoded, onlyFinite, accepted, contents}
+use Rattle.decode.specs.Decode.{decoded, onlyFinite}
 use Rattle.decode.proofs.ValueLaw.{first-bad, copied, copyable}
 use borrow.Author.Needs.{needs}
 use Rattle.decode.proofs.reconstruct.Statement.{statement}

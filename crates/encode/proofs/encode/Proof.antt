@@ -4,12 +4,11 @@ use mathlib.Core.List.{List}
 use Prim.Native.Nat.{ℕ, _/_}
 use lib.ListN.{length, replicate}
 use lib.Ieee.{Float}
-use Rattle.error.specs.Numbers.{Outcome, completed, ifCompleted}
+use Rattle.error.specs.Numbers.{Outcome, completed, ifCompleted, accepted, contents}
 use Rattle.ieee.specs.Sum.{plusZero}
 use Rattle.bitpack.specs.Layout.{packedBytes}
 use Rattle.compact.specs.Frame.{bytesOf, frameOf}
 use Rattle.norm.specs.Norm.{bitsOf}
-use Rattle.decode.specs.Decode.{accepted, contents}
 use Rattle.encode.specs.Encode.{searched, indicesFor, frameFor, codable}
 use Rattle.encode.proofs.CheckLaw.{code-refused, encoding-is}
 use Rattle.encode.proofs.AcceptLaw.{Codable, codable-accepted, writable, codewords-finite}
