@@ -19,7 +19,7 @@ use Rattle.lloyd_cells.specs.Update.{means, farthestSample, failsClosed, emptyC
 use Rattle.lloyd_cells.proofs.CellsLaw.{total-count}
 use Rattle.lloyd_cells.proofs.TallyLaw.{then-completed, then-refused, donor-found}
 use Rattle.lloyd_update.specs.Alone.{Call, updateChecks, termsOf, updateOf, updateAlone, codebookAfter, slotsAfter}
-use Rattle.history.specs.History.{Request, callWith, after, answers, isCompleted, completions, accepted, Made, sampleCount, assignedTally, tallyAfter, Sound, Balanced, Tallies, AcceptedCall, AnyCall, History}
+use Rattle.history.specs.History.{Request, callWith, after, answers, isCompleted, completions, accepted, sampleCount, assignedTally, tallyAfter, Sound, Balanced, Tallies, AcceptedCall, RefusedCall, Link, Chain, History}
 use Rattle.history.proofs.ChecksLaw.{cond-passed, cond-refused, one-for-each, all-cells, checks-not-15}
 use Rattle.history.proofs.TalliesLaw.{counted, follows, balanced, events-fit}
 
@@ -80,11 +80,11 @@ module _ (c : Call) where
       accepted-call : AcceptedCall c r
       accepted-call = record { rule = done; words = rw (pass, done); repairs = front; tallies = λ slots. tallies-of (slotsAfter c slots) (room slots) (front slots) }
 
-  call-accepted : (r : Repaired) → updateAlone c ≡ completed r → AcceptedCall c r
+  pub call-accepted : (r : Repaired) → updateAlone c ≡ completed r → AcceptedCall c r
   call-accepted r h = let (u, p, q) = then-completed (updateChecks c) (λ (u : Unit). updateOf c) r h in accepted-call p r q
 
-  call-refused : (n : ℕ) (vs : List Value) → updateAlone c ≡ refused n vs → codebookAfter c ≡ c .codebook
-  call-refused n vs h = elim (then-refused (updateChecks c) (λ (u : Unit). updateOf c) n vs h) [
+  call-leaves : (n : ℕ) (vs : List Value) → updateAlone c ≡ refused n vs → codebookAfter c ≡ c .codebook
+  call-leaves n vs h = elim (then-refused (updateChecks c) (λ (u : Unit). updateOf c) n vs h) [
     | inl p ↦ rw p
     | inr (u, p, q) ↦ rw (p, q)
   ]
@@ -95,8 +95,8 @@ module _ (c : Call) where
     | inr (u, p, q) ↦ donor-found (termsOf c) far start (c .size) vs (le-refl (c .size)) (rw (start-all p) l) (repairs-refused vs q)
   ]
 
-  pub any-call : AnyCall c
-  any-call = record { accepts = call-accepted; refuses = call-refused; donor = call-donor }
+  call-refused : (n : ℕ) (vs : List Value) → updateAlone c ≡ refused n vs → RefusedCall c n
+  call-refused n vs h = record { words = call-leaves n vs h; donor = λ l e. call-donor l vs (rw (← e) h) }
 
 -- ---- one request more, by what its call comes to
 module _ (q : Request) (rest : List Request) (codebook : List Float) where
@@ -109,27 +109,30 @@ module _ (q : Request) (rest : List Request) (codebook : List Float) where
   abbrev others : List Request
   others = accepted rest next
 
-  made-more : (o : Outcome Repaired) → updateAlone here ≡ o → Made others next (after rest next) → Made (cond (isCompleted o) (q ∷ others) others) codebook (after rest next)
-  unfolding Made
-  made-more (completed r) e h = let a = call-accepted here r e in (r, a .rule, subst (λ (w : List Float). Made others w (after rest next)) (a .words) h)
-  made-more (refused n vs) e h = subst (λ (w : List Float). Made others w (after rest next)) (call-refused here n vs e) h
+  -- what follows from the codebook that the call leaves
+  chain-more : (follows : List Float → Type 0) (o : Outcome Repaired) → updateAlone here ≡ o → follows next → Link here o follows
+  chain-more follows (completed r) e h = let a = call-accepted here r e in (a, subst follows (a .words) h)
+  chain-more follows (refused n vs) e h = let a = call-refused here n vs e in (a, subst follows (a .words) h)
 
   codebook-more : (o : Outcome Repaired) → updateAlone here ≡ o → after others next ≡ after rest next → after (cond (isCompleted o) (q ∷ others) others) codebook ≡ after rest next
   unfolding after
   codebook-more (completed r) e h = h
-  codebook-more (refused n vs) e h = ap (after others) (sym (call-refused here n vs e)) ∙ h
+  codebook-more (refused n vs) e h = ap (after others) (sym (call-leaves here n vs e)) ∙ h
 
   answers-more : (o : Outcome Repaired) → updateAlone here ≡ o → answers others next ≡ completions (answers rest next)
       → answers (cond (isCompleted o) (q ∷ others) others) codebook ≡ completions (o ∷ answers rest next)
   unfolding answers completions
   answers-more (completed r) e h = rw (e, h)
-  answers-more (refused n vs) e h = ap (answers others) (sym (call-refused here n vs e)) ∙ h
+  answers-more (refused n vs) e h = ap (answers others) (sym (call-leaves here n vs e)) ∙ h
 
 -- ---- the list
-made : (requests : List Request) (codebook : List Float) → Made (accepted requests codebook) codebook (after requests codebook)
-unfolding accepted after Made
-made [] codebook = refl
-made (q ∷ rest) codebook = made-more q rest codebook (updateAlone (callWith q codebook)) refl (made rest (codebookAfter (callWith q codebook)))
+chain : (requests : List Request) (codebook : List Float) → Chain requests codebook (after requests codebook)
+unfolding after Chain
+chain [] codebook = refl
+chain (q ∷ rest) codebook =
+    let last = after rest (codebookAfter (callWith q codebook)) in
+    chain-more q rest codebook (λ next. Chain rest next last) (updateAlone (callWith q codebook)) refl
+    (chain rest (codebookAfter (callWith q codebook)))
 
 same-codebook : (requests : List Request) (codebook : List Float) → after (accepted requests codebook) codebook ≡ after requests codebook
 unfolding accepted after
@@ -144,8 +147,7 @@ same-answers (q ∷ rest) codebook = answers-more q rest codebook (updateAlone (
 -- ---- the claim, of any list and any codebook
 pub history : (requests : List Request) (codebook : List Float) → History requests codebook
 history requests codebook = record {
-  made = made requests codebook;
+  chain = chain requests codebook;
   same-answers = same-answers requests codebook;
   same-codebook = same-codebook requests codebook;
-  each = λ before rest q e. any-call (callWith q (after before codebook));
 }

@@ -1,9 +1,13 @@
--- What demand 3 claims of updates called alone, one after another: `History`, at the end; proofs/HistoryLaw.antt proves it of every list and every codebook. It speaks of `updateAlone`, `codebookAfter` and `slotsAfter`, the definitions that the contract of `update::update_centroids` cites.
--- Document 01's terms: its history is a list of requests with the codebook before the first; the book of an accepted update is `Tallies`, a cell's tally `tallyOf`, its gifts `donations`, filled `isFilled`, the repairs the events in the first slots. Definitions only.
+-- What demand 3 claims of updates called alone, one after another: `History`, at the end, whose first member is one claim from
+-- the first codebook to the last; proofs/HistoryLaw.antt proves it of every list and every codebook. It speaks of `updateAlone`,
+-- `codebookAfter` and `slotsAfter`, the definitions that the contract of `update::update_centroids` cites.
+-- Document 01's terms: its history is a list of requests with the codebook before the first; the book of an accepted update is
+-- `Tallies`, a cell's tally `tallyOf`, its gifts `donations`, filled `isFilled`, the repairs the events in the first slots.
+-- Definitions only.
 use mathlib.Core.Path.{_≡_}
 use Prim.Native.Nat.{ℕ, _+_, _-_, _/_, _<_, _≤_}
 use mathlib.Core.Bool.{Bool, true, false, _||_, cond}
-use mathlib.Core.List.{List, [], _∷_, _++_}
+use mathlib.Core.List.{List, [], _∷_}
 use lib.Dec.{eqb}
 use lib.ListN.{length, getD, take}
 use lib.Ieee.{Float}
@@ -70,11 +74,6 @@ accepted (q ∷ rest) codebook =
     let others = accepted rest (codebookAfter (callWith q codebook)) in
     cond (isCompleted (updateAlone (callWith q codebook))) (q ∷ others) others
 
--- the rule of an update, request after request and never refused, makes `last` of the codebook
-unfoldable pub Made : List Request → List Float → List Float → Type 0
-Made [] codebook last = last ≡ codebook
-Made (q ∷ rest) codebook last = (r : Repaired) × (updateOf (callWith q codebook) ≡ completed r) × Made rest (wordsOf (q .size) (q .dim) (r .cells .word)) last
-
 -- ---- the tallies of an accepted update, from its arguments and answers alone
 abbrev pub sampleCount : Call → ℕ
 sampleCount c = length (c .samples) / c .dim
@@ -138,27 +137,35 @@ pub record Tallies (c : Call) (slots : List LloydRepairEvent) (repairs : ℕ) : 
   pub balanced : Balanced (sampleCount c) (c .size) (tallyOf c slots repairs)
 
 -- ---- what is claimed
--- of an accepted call: the rule came to r, the codebook now holds its codewords, the first slots its repairs, and the tallies are in order; whatever the slots held before
+-- of an accepted call: the rule came to r, the codebook now holds its codewords, the first slots its repairs, and the tallies
+-- are in order; whatever the slots held before
 pub record AcceptedCall (c : Call) (r : Repaired) : Type 0 where
   pub rule : updateOf c ≡ completed r
   pub words : codebookAfter c ≡ wordsOf (c .size) (c .dim) (r .cells .word)
   pub repairs : (slots : List LloydRepairEvent) → take (length (r .events)) (slotsAfter c slots) ≡ r .events
   pub tallies : (slots : List LloydRepairEvent) → Tallies c (slotsAfter c slots) (length (r .events))
 
--- of any call
-pub record AnyCall (c : Call) : Type 0 where
-  pub accepts : (r : Repaired) → updateAlone c ≡ completed r → AcceptedCall c r
-  -- a refusal leaves the codebook
-  pub refuses : (n : ℕ) (vs : List Value) → updateAlone c ≡ refused n vs → codebookAfter c ≡ c .codebook
-  -- with as many samples as codewords, or more, "no donor" never comes
-  pub donor : c .size ≤ sampleCount c → (vs : List Value) → updateAlone c ≡ refused 15 vs → ⊥
+-- of a call refused by n: it leaves the codebook; with as many samples as codewords, or more, "no donor" never comes
+pub record RefusedCall (c : Call) (n : ℕ) : Type 0 where
+  pub words : codebookAfter c ≡ c .codebook
+  pub donor : c .size ≤ sampleCount c → n ≡ 15 → ⊥
+
+-- a link of the chain: what is claimed of the call by what it comes to, and what `follows` from the codebook that it leaves
+abbrev pub Link : Call → Outcome Repaired → (List Float → Type 0) → Type 0
+Link c (completed r) follows = AcceptedCall c r × follows (wordsOf (c .size) (c .dim) (r .cells .word))
+Link c (refused n vs) follows = RefusedCall c n × follows (c .codebook)
+
+-- of all calls in order, from the first codebook to the last: each is given the codebook that the one before it left; an
+-- accepted one makes of it what document 01's rule makes, and starves no cell and loses no sample; a refused one leaves it
+unfoldable pub Chain : List Request → List Float → List Float → Type 0
+Chain [] codebook last = last ≡ codebook
+Chain (q ∷ rest) codebook last =
+    Link (callWith q codebook) (updateAlone (callWith q codebook)) (λ next. Chain rest next last)
 
 -- of the whole history
 pub record History (requests : List Request) (codebook : List Float) : Type 0 where
-  -- the codebook is what the accepted updates made of it in turn
-  pub made : Made (accepted requests codebook) codebook (after requests codebook)
+  -- the last codebook is what the accepted updates made of the first in turn
+  pub chain : Chain requests codebook (after requests codebook)
   -- without the refused, the others give the same answers and repairs and the same last codebook
   pub same-answers : answers (accepted requests codebook) codebook ≡ completions (answers requests codebook)
   pub same-codebook : after (accepted requests codebook) codebook ≡ after requests codebook
-  -- each call, wherever it stands, given the codebook that those before it left
-  pub each : (before rest : List Request) (q : Request) → requests ≡ before ++ (q ∷ rest) → AnyCall (callWith q (after before codebook))

@@ -1,4 +1,5 @@
--- The course of an accepted refinement: what stands before each of its rounds, and what each comes to. It is document 01's, round after round.
+-- The course of a refinement: what stands before each of its rounds, and what each comes to. It is document 01's, round after
+-- round, as far as the refinement comes.
 -- Assumes nothing.
 use mathlib.Core.Path.{_≡_, refl, sym, ap, _∙_}
 use mathlib.Core.Logic.{inl, inr}
@@ -98,14 +99,35 @@ module _ (j : Job) where
   same-events true x y events h k = h
   same-events false x y events h k = k
 
-  module _ (b : Best) (done : restartsTo j R ≡ completed b) where
-    pub best-came : (r : ℕ) → r ≤ R → restartsTo j r ≡ completed (bestAt r)
-    best-came r l = let (a, h) = restarts-before R r b l done in holds (startBest j) (restartsTo j r) a h
+  -- ---- restart r, whose first n rounds are completed
+  module _ (r n : ℕ) (e : Trained) (come : roundsAt r n ≡ completed e) where
+    pub stand-came : (i : ℕ) → i ≤ n → roundsAt r i ≡ completed (standAt r i)
+    stand-came i m =
+        let (s, h) = rounds-before r (trainedFrom j r (bestAt r)) n i e m come in
+        holds (trainedFrom j r (bestAt r)) (roundsAt r i) s h
 
-    pub best-last : bestAt R ≡ b
+    module _ (i : ℕ) (m : i < n) where
+      went : (u : Repaired) × (outcomeAt r i ≡ completed u) × (completed (afterRound j (standAt r i) u) ≡ completed (standAt r (suc i)))
+      unfolding roundsTo
+      went =
+          then-completed (outcomeAt r i) (λ u. completed (afterRound j (standAt r i) u)) (standAt r (suc i))
+          (sym (ap (λ (o : Outcome Trained). andThen o (roundOn j r i)) (stand-came i (omega arith))) ∙ stand-came (suc i) m)
+
+      pub round-came : outcomeAt r i ≡ completed (repairsAt r i)
+      round-came = holds _ (outcomeAt r i) (went .0) (went .1)
+
+      pub stand-next : standAt r (suc i) ≡ afterRound j (standAt r i) (repairsAt r i)
+      stand-next = sym (completed-same _ _ (went .2)) ∙ ap (λ (u : Repaired). afterRound j (standAt r i) u) (completed-same _ _ (sym (went .1) ∙ round-came))
+
+  -- ---- the first n restarts, all of them completed
+  module _ (n : ℕ) (b : Best) (done : restartsTo j n ≡ completed b) where
+    pub best-came : (r : ℕ) → r ≤ n → restartsTo j r ≡ completed (bestAt r)
+    best-came r l = let (a, h) = restarts-before n r b l done in holds (startBest j) (restartsTo j r) a h
+
+    pub best-last : bestAt n ≡ b
     best-last = ap (held (startBest j)) done
 
-    module _ (r : ℕ) (l : r < R) where
+    module _ (r : ℕ) (l : r < n) where
       -- restart r, from what the earlier ones came to
       restarted : restartOn j r (bestAt r) ≡ completed (bestAt (suc r))
       unfolding restartsTo
@@ -114,33 +136,20 @@ module _ (j : Job) where
       ended : (t : Trained) × (roundsAt r I ≡ completed t) × (completed (afterRestart j r (bestAt r) t) ≡ completed (bestAt (suc r)))
       ended = then-completed (roundsAt r I) (λ t. completed (afterRestart j r (bestAt r) t)) (bestAt (suc r)) restarted
 
-      pub stand-came : (i : ℕ) → i ≤ I → roundsAt r i ≡ completed (standAt r i)
-      stand-came i m =
-          let (s, h) = rounds-before r (trainedFrom j r (bestAt r)) I i (ended .0) m (ended .1) in
-          holds (trainedFrom j r (bestAt r)) (roundsAt r i) s h
+      pub end-came : roundsAt r I ≡ completed (standAt r I)
+      end-came = stand-came r I (ended .0) (ended .1) I (le-refl I)
 
       pub best-next : bestAt (suc r) ≡ afterRestart j r (bestAt r) (standAt r I)
-      best-next = sym (completed-same _ _ (ended .2)) ∙ ap (λ (t : Trained). afterRestart j r (bestAt r) t) (completed-same _ _ (sym (ended .1) ∙ stand-came I (le-refl I)))
+      best-next = sym (completed-same _ _ (ended .2)) ∙ ap (λ (t : Trained). afterRestart j r (bestAt r) t) (completed-same _ _ (sym (ended .1) ∙ end-came))
 
       events-next : bestAt (suc r) .events ≡ standAt r I .events
       events-next = ap (λ (x : Best). x .events) best-next ∙ same-events (lt (errorOf j (standAt r I .codebook)) (bestAt r .error)) _ _ (standAt r I .events) refl refl
 
-      starts : standAt r 0 .codebook ≡ startOf j r
-      unfolding roundsTo
-      starts = refl
-
-      module _ (i : ℕ) (m : i < I) where
-        went : (u : Repaired) × (outcomeAt r i ≡ completed u) × (completed (afterRound j (standAt r i) u) ≡ completed (standAt r (suc i)))
-        unfolding roundsTo
-        went =
-            then-completed (outcomeAt r i) (λ u. completed (afterRound j (standAt r i) u)) (standAt r (suc i))
-            (sym (ap (λ (o : Outcome Trained). andThen o (roundOn j r i)) (stand-came i (omega arith))) ∙ stand-came (suc i) m)
-
-        pub round-came : outcomeAt r i ≡ completed (repairsAt r i)
-        round-came = holds _ (outcomeAt r i) (went .0) (went .1)
-
-        pub stand-next : standAt r (suc i) ≡ afterRound j (standAt r i) (repairsAt r i)
-        stand-next = sym (completed-same _ _ (went .2)) ∙ ap (λ (u : Repaired). afterRound j (standAt r i) u) (completed-same _ _ (sym (went .1) ∙ round-came))
+  -- ---- all of them
+  module _ (b : Best) (done : restartsTo j R ≡ completed b) where
+    starts : (r : ℕ) → r < R → standAt r 0 .codebook ≡ startOf j r
+    unfolding roundsTo
+    starts r l = refl
 
     later-starts : (r w i : ℕ) → 0 < r → r < R → w < sizeOf j → i < dimOf j → getD (standAt r 0 .codebook) (w * dimOf j + i) nan ≡ turnedAt j r w i
     unfolding roundsTo
@@ -148,7 +157,7 @@ module _ (j : Job) where
 
     more-events : (r : ℕ) → suc r < R → standAt (suc r) 0 .events ≡ standAt r I .events
     unfolding roundsTo
-    more-events r l = events-next r (omega arith)
+    more-events r l = events-next R b done r (omega arith)
 
     pub ran : Ran j courseOf b
     unfolding roundsTo restartsTo
@@ -156,10 +165,10 @@ module _ (j : Job) where
       starts = starts;
       first-start = refl;
       later-starts = later-starts;
-      rounds = λ r i l m. round-came r l i m;
-      next = λ r i l m. stand-next r l i m;
-      came = λ r i l m. stand-came r l i m;
+      rounds = λ r i l m. round-came r I _ (end-came R b done r l) i m;
+      next = λ r i l m. stand-next r I _ (end-came R b done r l) i m;
+      came = λ r i l m. stand-came r I _ (end-came R b done r l) i m;
       first-events = refl;
       more-events = more-events;
-      last-events = λ r e. ap (λ (x : Best). x .events) (sym best-last ∙ ap bestAt (sym e)) ∙ events-next r (rw (← e) (le-refl (suc r)));
+      last-events = λ r e. ap (λ (x : Best). x .events) (sym (best-last R b done) ∙ ap bestAt (sym e)) ∙ events-next R b done r (rw (← e) (le-refl (suc r)));
     }

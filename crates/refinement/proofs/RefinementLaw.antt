@@ -1,29 +1,29 @@
 -- Demand 3 on refinement: `any-refinement`, at the end, for any job.
 -- Assumes nothing.
 use mathlib.Core.Path.{_≡_, refl}
+use native.Mathlib.Omega.{arith}
 use Rattle.error.specs.Numbers.{completed}
 use Rattle.lloyd_cells.proofs.TallyLaw.{then-completed}
-use Rattle.lloyd_refine.specs.Refine.{Job, restartsOf, refineChecks, restartsTo, refineOf, Best, refinement}
+use Rattle.lloyd_refine.specs.Refine.{Job, restartsOf, iterationsOf, refineChecks, restartsTo, refineOf, Best, refinement}
 use Rattle.refinement.specs.Refinement.{AcceptedRefinement, AnyRefinement}
 use Rattle.refinement.proofs.ChecksLaw.{checked}
 use Rattle.refinement.proofs.DonorLaw.{no-donor}
-use Rattle.refinement.proofs.CourseLaw.{courseOf, ran}
-use Rattle.refinement.proofs.TameLaw.{stand-tame}
+use Rattle.refinement.proofs.CourseLaw.{courseOf, best-came, end-came, ran}
 use Rattle.refinement.proofs.WinsLaw.{wins}
-use Rattle.refinement.proofs.RoundsLaw.{rounds}
+use Rattle.refinement.proofs.RoundsLaw.{rounds, logged}
 use Rattle.refinement.proofs.RefusedLaw.{refused-refinement}
 
 module _ (j : Job) where
   accepted : (b : Best) → refineChecks j ≡ completed tt → restartsTo j (restartsOf j) ≡ completed b → AcceptedRefinement j b
   accepted b checks done =
       let pass = checked j checks in
-      let course = ran j b done in
-      let tame = stand-tame j pass b done in
+      let R = restartsOf j in
       record {
         course = courseOf j;
-        ran = course;
+        ran = ran j b done;
         wins = wins j pass b done;
-        restarts = rounds j (courseOf j) b checks done course pass (λ r i l m. tame r i l m .0) (λ r i l m. tame r i l m .1);
+        restarts = λ r l. rounds j pass r (iterationsOf j) l (best-came j R b done r (omega arith)) _ (end-came j R b done r l);
+        logged = logged j pass b checks done;
         written = λ before. rw (checks, done);
         reported = refl;
       }

@@ -1,8 +1,10 @@
--- A refinement that is refused after its checks: it came to a round, and update alone refuses that round too, by the same number. Assumes nothing.
-use mathlib.Core.Path.{_≡_, refl, sym, ap, _∙_}
+-- A refinement that is refused after its checks: the rounds before are a history, it came to a round, and update alone refuses
+-- that round too, by the same number. Assumes nothing.
+use mathlib.Core.Path.{_≡_, refl, sym, ap, _∙_, subst}
 use mathlib.Core.Logic.{_⊎_, inl, inr}
 use Prim.Native.Nat.{ℕ, zero, suc, _-_, _≤_, _<_}
 use native.Mathlib.Nat.{le-of-lt, le-refl}
+use native.Mathlib.Omega.{arith}
 use mathlib.Core.Bool.{Bool, true, false, _&&_, cond}
 use mathlib.Core.List.{List, [], _∷_}
 use lib.Dec.{eqb, leb, ltb}
@@ -17,13 +19,18 @@ use Rattle.lloyd_cells.specs.Repair.{Cells, Terms, Repaired, donorTo, leastNorm
 use Rattle.lloyd_cells.specs.Update.{means, farthestSample, failsClosed, emptyCells, updated}
 use Rattle.lloyd_cells.proofs.TallyLaw.{then-refused, splitBy}
 use Rattle.lloyd_round.specs.Round.{cellOf}
-use Rattle.lloyd_update.specs.Alone.{updateOf}
-use Rattle.lloyd_refine.specs.Refine.{Job, sizeOf, dimOf, countOf, restartsOf, iterationsOf, refineChecks, roundTerms, roundOf, Trained, afterRound, roundOn, roundsTo, trainedFrom, afterRestart, restartOn, restartsTo, refineOf, refinement}
-use Rattle.refinement.specs.Refinement.{Reached, SameRefusal, RefusedRefinement}
+use Rattle.lloyd_update.specs.Alone.{updateChecks, updateOf, updateAlone}
+use Rattle.lloyd_refine.specs.Refine.{Job, sizeOf, dimOf, countOf, restartsOf, iterationsOf, refineChecks, roundTerms, roundOf, Trained, afterRound, roundOn, roundsTo, startOf, Best, trainedFrom, afterRestart, restartOn, restartsTo, refineOf, refinement}
+use Rattle.history.specs.History.{callWith}
+use Rattle.history.proofs.HistoryLaw.{history}
+use Rattle.refinement.specs.Refinement.{roundRequest, requestsTo, Reached, SameRefusal, RefusedRefinement}
 use Rattle.refinement.proofs.ChecksLaw.{Checked, checked}
 use Rattle.refinement.proofs.DonorLaw.{never, round-donor}
 use Rattle.refinement.proofs.AloneLaw.{showing, repairs-shown, roundCall, count-is, checks-pass}
+use Rattle.refinement.proofs.CourseLaw.{bestAt, roundsAt, standAt, courseOf, stand-came, best-came, best-last, end-came}
 use Rattle.refinement.proofs.TameLaw.{reached-tame}
+use Rattle.refinement.proofs.RoundsLaw.{rounds}
+use Rattle.error.proofs.Outcomes.{completed-same}
 
 -- ---- an update that is refused is refused whatever number refusal 19 shows, which it shows then
 -- the refusal n, vs where 19 shows s, beside the outcome where it shows m
@@ -131,19 +138,40 @@ module _ (j : Job) (n : ℕ) (vs : List Value) where
     same o (inl (inr (inr q), e)) = inl (inr q, e)
     same o (inr k) = inr k
 
+  -- what stands before round i of restart r in the course of the refinement
+  came : (r i : ℕ) (t : Trained) → Reached j r i t → (restartsTo j r ≡ completed (bestAt j r)) × (roundsAt j r i ≡ completed t)
+  came r i t h =
+      let same = sym (best-last j r (h .best) (h .restarts)) in
+      (h .restarts ∙ ap completed same, ap (λ (b : Best). roundsTo j r (trainedFrom j r b) i) (sym same) ∙ h .rounds)
+
+  module _ (checks : refineChecks j ≡ completed tt) (r i : ℕ) (t : Trained) (l : r < restartsOf j) (m : i < iterationsOf j) (come : Reached j r i t) (h : roundAt r i t ≡ refused n vs) where
+    pass : Checked j
+    pass = checked j checks
+
+    stands : t ≡ standAt j r i
+    stands = let c = came r i t come in completed-same _ _ (sym (c .1) ∙ stand-came j r i t (c .1) i (le-refl i))
+
+    refused-there : RefusedRefinement j n vs
+    refused-there =
+        let c = came r i t come in
+        let tame = reached-tame j pass r i t l come in
+        let ok = checks-pass j pass r i t (tame .0) (tame .1) in
+        let no : SameRefusal j t n vs (updateAlone (roundCall j pass r i t (tame .0) (tame .1))) = rw ok (same pass r i t l come h _ (alike pass r i t l come h)) in
+        record {
+          course = courseOf j;
+          in-restart = r;
+          in-round = i;
+          restart-below = l;
+          round-below = m;
+          restarts = λ s o. rounds j pass s (iterationsOf j) (omega arith) (best-came j r (come .best) (come .restarts) s (omega arith)) _ (end-came j r (come .best) (come .restarts) s o);
+          rounds = rounds j pass r i l (c .0) t (c .1);
+          history = history (requestsTo j (courseOf j) r (suc i)) (startOf j r);
+          checked = subst (λ (x : Trained). updateChecks (callWith (roundRequest j r i x) (x .codebook)) ≡ completed tt) stands ok;
+          refusal = subst (λ (x : Trained). SameRefusal j x n vs (updateAlone (callWith (roundRequest j r i x) (x .codebook)))) stands no;
+        }
+
   pub refused-refinement : refineChecks j ≡ completed tt → refinement j ≡ refused n vs → RefusedRefinement j n vs
   refused-refinement passed h =
-      let pass = checked j passed in
       let after : refineOf j ≡ refused n vs = sym (ap (λ (o : Outcome Unit). andThen o (λ u. refineOf j)) passed) ∙ h in
       let (r, i, t, l, m, come, k) = refused-restart (restartsOf j) (le-refl (restartsOf j)) after in
-      let ok = checks-pass j pass r i t (reached-tame j pass r i t l come .0) (reached-tame j pass r i t l come .1) in
-      record {
-        in-restart = r;
-        in-round = i;
-        standing = t;
-        restart-below = l;
-        round-below = m;
-        reached = come;
-        checked = ok;
-        refusal = rw ok (same pass r i t l come k _ (alike pass r i t l come k));
-      }
+      refused-there passed r i t l m come k

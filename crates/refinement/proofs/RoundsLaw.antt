@@ -1,4 +1,5 @@
--- The rounds of a restart are a history of updates alone, with the answers of the rounds; and the events of each stand in the refinement's event slots from the round's first free slot on.
+-- The rounds of a restart are a history of updates alone, with the answers of the rounds; and the events of each stand in the
+-- refinement's event slots from the round's first free slot on.
 -- Assumes nothing.
 use mathlib.Core.Path.{_≡_, refl, sym, ap, _∙_, subst}
 use mathlib.Core.Logic.{inl, inr}
@@ -22,12 +23,14 @@ use Rattle.lloyd_events.specs.declared.LloydRepairEvent.{LloydRepairEvent}
 use Rattle.lloyd_cells.specs.Repair.{Repaired}
 use Rattle.lloyd_update.specs.Alone.{Call, updateLimit, updateAlone, codebookAfter}
 use Rattle.lloyd_update.specs.Alone as alone
-use Rattle.lloyd_refine.specs.Refine.{Job, sizeOf, dimOf, countOf, restartsOf, iterationsOf, Trained, startOf, Best, refineChecks, restartsTo, slotsAfter}
+use Rattle.lloyd_refine.specs.Refine.{Job, sizeOf, dimOf, countOf, restartsOf, iterationsOf, Trained, roundsTo, startOf, Best, refineChecks, restartsTo, slotsAfter}
 use Rattle.history.specs.History.{Request, callWith, after, answers, Tallies, AcceptedCall}
-use Rattle.history.proofs.HistoryLaw.{any-call, history}
-use Rattle.refinement.specs.Refinement.{Course, Ran, roundRequest, requestsTo, toWord, Rounds}
+use Rattle.history.proofs.HistoryLaw.{call-accepted, history}
+use Rattle.refinement.specs.Refinement.{Course, Ran, Reached, roundRequest, roundCallAt, requestsTo, toWord, Rounds, Logged}
 use Rattle.refinement.proofs.ChecksLaw.{Checked}
+use Rattle.refinement.proofs.CourseLaw.{bestAt, roundsAt, standAt, repairsAt, courseOf, stand-came, round-came, stand-next, best-came, end-came, ran}
 use Rattle.refinement.proofs.StandLaw.{rows-bounded, samples-within}
+use Rattle.refinement.proofs.TameLaw.{Tame, reached-tame}
 use Rattle.refinement.proofs.AloneLaw.{alone-done, alone-leaves}
 
 -- ---- n requests, each given the codebook that the last one left
@@ -92,46 +95,73 @@ module _ (j : Job) (c : Course) (b : Best) (ran : Ran j c b) where
 same-tallies : (c : Call) (xs ys : List LloydRepairEvent) (n : ℕ) → n ≤ length ys → take n ys ≡ take n xs → Tallies c xs n → Tallies c ys n
 same-tallies c xs ys n l e t = record { reported = l; free = t .free; sound = rw e (t .sound); counted = rw e (t .counted); balanced = rw e (t .balanced) }
 
-module _ (j : Job) (c : Course) (b : Best) (checks : refineChecks j ≡ completed tt) (done : restartsTo j (restartsOf j) ≡ completed b) (ran : Ran j c b) (pass : Checked j)
-    (size : (r i : ℕ) → r < restartsOf j → i ≤ iterationsOf j → length (c .stand r i .codebook) ≡ sizeOf j * dimOf j)
-    (tame : (r i : ℕ) → r < restartsOf j → i ≤ iterationsOf j → firstOutside updateLimit (c .stand r i .codebook) ≡ Nowhere) (r : ℕ) (l : r < restartsOf j) where
-  abbrev callAt : ℕ → Call
-  callAt i = callWith (roundRequest j r i (c .stand r i)) (c .stand r i .codebook)
+-- ---- the first n rounds of restart r, all of them completed
+module _ (j : Job) (pass : Checked j) (r n : ℕ) (l : r < restartsOf j) (best : restartsTo j r ≡ completed (bestAt j r)) (e : Trained)
+    (come : roundsAt j r n ≡ completed e) where
+  abbrev at : ℕ → Trained
+  at = standAt j r
 
-  answer-at : (i : ℕ) → i < iterationsOf j → updateAlone (callAt i) ≡ completed (c .repairs r i)
-  answer-at i m = alone-done j pass r i (c .stand r i) (size r i l (omega arith)) (tame r i l (omega arith)) (c .repairs r i) (ran .rounds r i l m)
+  reached : (i : ℕ) → i ≤ n → Reached j r i (at i)
+  reached i m = record { best = bestAt j r; restarts = best; rounds = stand-came j r n e come i m }
 
-  left-at : (i : ℕ) → i < iterationsOf j → codebookAfter (callAt i) ≡ c .stand r (suc i) .codebook
+  tame : (i : ℕ) → i ≤ n → Tame j (at i .codebook)
+  tame i m = reached-tame j pass r i (at i) l (reached i m)
+
+  pub answer-at : (i : ℕ) → i < n → updateAlone (roundCallAt j (courseOf j) r i) ≡ completed (repairsAt j r i)
+  answer-at i m = let t = tame i (omega arith) in alone-done j pass r i (at i) (t .0) (t .1) (repairsAt j r i) (round-came j r n e come i m)
+
+  left-at : (i : ℕ) → i < n → codebookAfter (roundCallAt j (courseOf j) r i) ≡ at (suc i) .codebook
   left-at i m =
-      alone-leaves j pass r i (c .stand r i) (size r i l (omega arith)) (tame r i l (omega arith)) (c .repairs r i) (ran .rounds r i l m)
-      ∙ ap (λ (t : Trained). t .codebook) (sym (ran .next r i l m))
+      let t = tame i (omega arith) in
+      alone-leaves j pass r i (at i) (t .0) (t .1) (repairsAt j r i) (round-came j r n e come i m)
+      ∙ ap (λ (t : Trained). t .codebook) (sym (stand-next j r n e come i m))
 
-  codebooks : (i : ℕ) → i ≤ iterationsOf j → after (requestsTo j c r i) (startOf j r) ≡ c .stand r i .codebook
-  codebooks i m = rw (← ran .starts r l) (after-list i (λ n. roundRequest j r n (c .stand r n)) (λ n. c .stand r n .codebook) (λ n k. left-at n (omega arith)))
+  codebooks : (i : ℕ) → i ≤ n → after (requestsTo j (courseOf j) r i) (startOf j r) ≡ at i .codebook
+  unfolding roundsTo
+  codebooks i m = after-list i (λ k. roundRequest j r k (at k)) (λ k. at k .codebook) (λ k o. left-at k (omega arith))
 
-  accepted : answers (requestsTo j c r (iterationsOf j)) (startOf j r) ≡ tabulate (iterationsOf j) (λ i. completed (c .repairs r i))
-  accepted = rw (← ran .starts r l) (answers-list (iterationsOf j) (λ n. roundRequest j r n (c .stand r n)) (λ n. c .stand r n .codebook) (λ n. completed (c .repairs r n)) left-at answer-at)
+  accepted : answers (requestsTo j (courseOf j) r n) (startOf j r) ≡ tabulate n (λ i. completed (repairsAt j r i))
+  unfolding roundsTo
+  accepted = answers-list n (λ k. roundRequest j r k (at k)) (λ k. at k .codebook) (λ k. completed (repairsAt j r k)) left-at answer-at
 
-  nearest-words : (i s : ℕ) → i < iterationsOf j → s < countOf j
-      → let w = getD (roundRequest j r i (c .stand r i) .assignments) s 0 in Least (toWord j (c .stand r i) s) (sizeOf j) (record { index = w; distance = toWord j (c .stand r i) s w })
+  nearest-words : (i s : ℕ) → i < n → s < countOf j
+      → let w = getD (roundRequest j r i (at i) .assignments) s 0 in
+      Least (toWord j (at i) s) (sizeOf j) (record { index = w; distance = toWord j (at i) s w })
   nearest-words i s m o =
-      let n = sizeOf j in
+      let N = sizeOf j in
       let k = dimOf j in
-      let book = rowOf k (c .stand r i .codebook) in
+      let book = rowOf k (at i .codebook) in
       let x = rowOf k (j .samples) s in
       let p = pass .profile .shape in
       let some = p .book-least in
-      let h : Least (toWord j (c .stand r i) s) n (nearest k n book x) =
-      nearest-least 48 (lit≤ tt) k (p .block-most) n (omega arith) book (rows-bounded 48 n k (c .stand r i .codebook) (tame r i l (omega arith)) (size r i l (omega arith))) x
+      let t = tame i (omega arith) in
+      let h : Least (toWord j (at i) s) N (nearest k N book x) =
+      nearest-least 48 (lit≤ tt) k (p .block-most) N (omega arith) book (rows-bounded 48 N k (at i .codebook) (t .1) (t .0)) x
       (rows-bounded 48 (countOf j) k (j .samples) (samples-within j pass) (pass .samples) s o) in
-      subst (λ (w : ℕ). Least (toWord j (c .stand r i) s) n (record { index = w; distance = toWord j (c .stand r i) s w })) (sym (getD-tabulate (countOf j) (λ q. nearest k n book (rowOf k (j .samples) q) .index) s 0 o))
-      (subst (λ (y : Float). Least (toWord j (c .stand r i) s) n (record { index = nearest k n book x .index; distance = y })) (h .is) h)
+      subst (λ (w : ℕ). Least (toWord j (at i) s) N (record { index = w; distance = toWord j (at i) s w }))
+      (sym (getD-tabulate (countOf j) (λ q. nearest k N book (rowOf k (j .samples) q) .index) s 0 o))
+      (subst (λ (y : Float). Least (toWord j (at i) s) N (record { index = nearest k N book x .index; distance = y })) (h .is) h)
+
+  pub rounds : Rounds j (courseOf j) r n
+  rounds = record {
+    reached = reached;
+    codebooks = codebooks;
+    nearest-words = nearest-words;
+    accepted = accepted;
+    history = history (requestsTo j (courseOf j) r n) (startOf j r);
+  }
+
+-- ---- the events of an accepted refinement
+module _ (j : Job) (pass : Checked j) (b : Best) (checks : refineChecks j ≡ completed tt) (done : restartsTo j (restartsOf j) ≡ completed b) (r : ℕ)
+    (l : r < restartsOf j) where
+  abbrev c : Course
+  c = courseOf j
 
   module _ (i : ℕ) (m : i < iterationsOf j) (slots : List LloydRepairEvent) where
     -- the slots from the round's first free one on
     own : (rest : List LloydRepairEvent) × (drop (length (c .stand r i .events)) (slotsAfter j slots) ≡ c .repairs r i .events ++ rest)
     own =
-        let (rest, e) = parted j c b ran r i l m in
+        let (rest, e) = parted j c b (ran j b done) r i l m in
         let after-all = drop (length (b .events)) slots in
         let left : slotsAfter j slots ≡ b .events ++ after-all = rw (checks, done) in (
           rest ++ after-all,
@@ -143,12 +173,14 @@ module _ (j : Job) (c : Course) (b : Best) (checks : refineChecks j ≡ complete
     events : take (length (c .repairs r i .events)) (drop (length (c .stand r i .events)) (slotsAfter j slots)) ≡ c .repairs r i .events
     events = let (rest, e) = own in rw e (take-append-seam (c .repairs r i .events) rest)
 
-    book : Tallies (callAt i) (drop (length (c .stand r i .events)) (slotsAfter j slots)) (length (c .repairs r i .events))
+    book : Tallies (roundCallAt j c r i) (drop (length (c .stand r i .events)) (slotsAfter j slots)) (length (c .repairs r i .events))
     book =
         let (rest, e) = own in
-        let a : AcceptedCall (callAt i) (c .repairs r i) = any-call (callAt i) .accepts (c .repairs r i) (answer-at i m) in
+        let come = end-came j (restartsOf j) b done r l in
+        let best = best-came j (restartsOf j) b done r (omega arith) in
+        let a : AcceptedCall (roundCallAt j c r i) (c .repairs r i) = call-accepted (roundCallAt j c r i) (c .repairs r i) (answer-at j pass r (iterationsOf j) l best _ come i m) in
         let room : length (c .repairs r i .events) ≤ length (drop (length (c .stand r i .events)) (slotsAfter j slots)) = rw (e, length-append (c .repairs r i .events) rest) (omega arith) in
-        same-tallies (callAt i) (alone.slotsAfter (callAt i) []) _ (length (c .repairs r i .events)) room (events ∙ sym (a .repairs [])) (a .tallies [])
+        same-tallies (roundCallAt j c r i) (alone.slotsAfter (roundCallAt j c r i) []) _ (length (c .repairs r i .events)) room (events ∙ sym (a .repairs [])) (a .tallies [])
 
-  pub rounds : Rounds j c r
-  rounds = record { codebooks = codebooks; nearest-words = nearest-words; accepted = accepted; history = history (requestsTo j c r (iterationsOf j)) (startOf j r); events = events; tallies = book }
+  pub logged : Logged j c r
+  logged = record { events = events; tallies = book }

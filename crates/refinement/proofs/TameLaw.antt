@@ -19,7 +19,7 @@ use Rattle.lloyd_refine.specs.Refine.{Job, sizeOf, dimOf, countOf, restartsOf, 
 use Rattle.finite.proofs.StepLaw.{updated-kept}
 use Rattle.refinement.specs.Refinement.{Reached}
 use Rattle.refinement.proofs.ChecksLaw.{Checked}
-use Rattle.refinement.proofs.CourseLaw.{bestAt, standAt, stand-came}
+use Rattle.refinement.proofs.CourseLaw.{bestAt, standAt, stand-came, end-came}
 use Rattle.refinement.proofs.StandLaw.{rows-bounded, words-within, samples-within, start-length, start-within}
 
 -- n codewords of k coordinates, each value at most 2 ^ 48
@@ -52,4 +52,4 @@ module _ (j : Job) (pass : Checked j) where
 
   -- in an accepted refinement, what stands before each round and at the end
   pub stand-tame : (b : Best) → restartsTo j (restartsOf j) ≡ completed b → (r i : ℕ) → r < restartsOf j → i ≤ iterationsOf j → Tame j (standAt j r i .codebook)
-  stand-tame b done r i l m = rounds-tame r i (bestAt j r) (standAt j r i) l (stand-came j b done r l i m)
+  stand-tame b done r i l m = rounds-tame r i (bestAt j r) (standAt j r i) l (stand-came j r (iterationsOf j) _ (end-came j (restartsOf j) b done r l) i m)

@@ -77,10 +77,10 @@ module _ (j : Job) (pass : Checked j) where
 
     kept : (r : ℕ) → r ≤ restartsOf j → Kept r (bestAt j r)
     kept zero l = kept-start
-    kept (suc r) l = subst (Kept (suc r)) (sym (best-next j b done r l)) (kept-next r (bestAt j r) (kept r (omega arith)))
+    kept (suc r) l = subst (Kept (suc r)) (sym (best-next j (restartsOf j) b done r l)) (kept-next r (bestAt j r) (kept r (omega arith)))
 
     pub wins : Wins j (courseOf j) b
     wins =
-        let (f, c, e) = subst (Kept (restartsOf j)) (best-last j b done) (kept (restartsOf j) (le-refl (restartsOf j))) in
+        let (f, c, e) = subst (Kept (restartsOf j)) (best-last j (restartsOf j) b done) (kept (restartsOf j) (le-refl (restartsOf j))) in
         let least : Least errorAt (suc (restartsOf j)) (foundOf b) = subst (Least errorAt (suc (restartsOf j))) f (first-least errorAt (suc (restartsOf j)) (omega arith) errors-finite) in
         record { one-of = least .within; codebook = c; error = e; finite-errors = errors-finite; none-less = least .none-nearer; earlier-more = least .first }
