@@ -1,5 +1,5 @@
 -- Rounding does not pass a value that the format holds: a fraction of at most a / c rounds to a finite float of size at most a / c, where a / c is a value of the format.
--- And so for sums, differences, products and quotients: for each a law `-below` (by what the bound rounds to), and from it those for fractions and whole numbers that the format holds.
+-- And so for sums, differences, products and quotients: for each a law `-below` (by what the bound rounds to), and from it one for bounds that are whole numbers of the format.
 -- Assumes nothing.
 use mathlib.Core.Path.{_≡_, refl, sym, ap, _∙_, subst}
 use Prim.Native.Nat.{ℕ, zero, suc, _+_, _-_, _*_, _/_, _%_, _^_, _≤_, _<_, zero-le, compare}
@@ -52,7 +52,7 @@ signed-at-most s (inf t) a c h = h
 signed-at-most s (fin t m e) a c h = h
 
 -- ---- below a finite value that is not negative
-or-le : (a b : ℕ) → T (ltb a b || (eqb a b && true)) → a ≤ b
+pub or-le : (a b : ℕ) → T (ltb a b || (eqb a b && true)) → a ≤ b
 or-le a b t = go (ltb a b) (eqb a b) (ltb→lt a b) (eqb→eq a b) t
   where
     go : (x y : Bool) → (T x → a < b) → (T y → a ≡ b) → T (x || (y && true)) → a ≤ b
@@ -211,10 +211,6 @@ mul-below f (fin s m e) (fin t n g) a c b d u w C D v h k =
     round-below f (unlike s t) (m * up e * (n * up g)) (down e * down g) (a * b) (c * d) u w (mul-pos (down-pos e) (down-pos g)) (mul-pos C D) v
     (times a c b d (m * up e) (n * up g) (down e) (down g) h k)
 
--- where the format holds the product of the bounds
-pub mul-at-most : (f : Format) (x y : Float) (a c b d : ℕ) → 0 < c → 0 < d → HoldsFraction f (a * b) (c * d) → AtMost x a c → AtMost y b d → AtMost (mul f x y) (a * b) (c * d)
-mul-at-most f x y a c b d C D r h k = mul-below f x y a c b d (a * b) (c * d) C D (fraction-value f (a * b) (c * d) (mul-pos C D) r) h k
-
 pub mul-upto : (f : Format) (x y : Float) (A B : ℕ) → Holds f (A * B) → Upto x A → Upto y B → Upto (mul f x y) (A * B)
 mul-upto f x y A B r h k = mul-below f x y A 1 B 1 (A * B) 1 (zero-lt-suc 0) (zero-lt-suc 0) (holds-value f (A * B) r) h k
 
@@ -253,10 +249,6 @@ mean-upto f x A n r l h =
     let same : round f false A 1 ≡ round f false (suc n * A * 1) (1 * suc n) = round-same f false A 1 (suc n * A * 1) (1 * suc n) (zero-lt-suc 0) (mul-pos (zero-lt-suc 0) (zero-lt-suc n)) (simp (mul-one, one-mul, mul-comm)) in
     div-below f x (ofInt f (pos (suc n))) (suc n * A) 1 (suc n) 1 A 1 (zero-lt-suc 0) (zero-lt-suc n) (subst (λ (y : Float). HasValue y false A 1) same (holds-value f A r)) h
     (value-at-least (ofInt f (pos (suc n))) false (suc n) (suc n) 1 (whole-value f (suc n) (le-of-lt l)) (le-refl (suc n)))
-
--- to divide by a whole number of 1 or more does not pass a bound either
-pub div-upto-count : (f : Format) (x : Float) (A n : ℕ) → Holds f A → suc n < 2 ^ prec f → Upto x A → Upto (div f x (ofInt f (pos (suc n)))) A
-div-upto-count f x A n r l h = mean-upto f x A n r l (upto-mono x A (suc n * A) h (le-trans (le-of-eq (sym (one-mul A))) (mul-le-mul-right A (zero-lt-suc n))))
 
 -- ---- sums of many terms
 -- only the terms themselves count

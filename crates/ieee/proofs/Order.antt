@@ -1,18 +1,16 @@
--- The order of the finite floats: `<` is irreflexive, asymmetric, transitive, and x < y ≤ z gives x < z; neither x < y nor y < x is `==`; and two values of one format, neither with a minus sign, that are `==` are one float.
+-- The order of the finite floats: `<` is irreflexive, asymmetric, transitive, and x < y ≤ z gives x < z; and neither x < y nor y < x is `==`.
 -- Assumes nothing.
-use mathlib.Core.Path.{_≡_, sym, ap, _∙_}
+use mathlib.Core.Path.{_≡_, sym, _∙_}
 use mathlib.Core.Logic.{_⊎_, inl, inr}
 use Prim.Native.Nat.{ℕ, _+_, _*_, _≤_, _<_}
 use native.Mathlib.Nat.{le-trans, le-of-eq, lt-of-lt-of-le, lt-of-le-of-lt, lt-irrefl, le-antisymm, mul-right-comm, mul-le-mul-right, mul-lt-mul-of-pos-right, lt-of-mul-lt-mul-right, mul-pos, eq-zero-or-pos, zero-mul}
 use native.Mathlib.Omega.{arith}
-use mathlib.Core.Bool.{Bool, true, false, not, _&&_, _||_, true≢false}
+use mathlib.Core.Bool.{Bool, true, false, not, _&&_, _||_}
 use lib.Dec.{T, T-not, not-T, ltb, eqb, ltb→lt, lt→ltb, nltb→le, eqb→eq}
-use lib.Ieee.{Float, nan, inf, fin, Format, up, down, below, level, lt, eq, le, fits}
+use lib.Ieee.{Float, nan, inf, fin, up, down, below, level, lt, eq, le}
 use lib.Ieee.Fits.{down-pos, and-i, and-l, and-r, eq→eqb}
 use lib.Ieee.Scale.{finite}
 use lib.Ieee.Positive.{first-pos}
-use Rattle.ieee.specs.Bounds.{NotNegative}
-use Rattle.ieee.proofs.Value.{holds-true, same-value}
 
 -- a / p < b / q ≤ c / r
 across : (a b c p q r : ℕ) → 0 < q → 0 < r → a * q < b * p → b * r ≤ c * q → a * r < c * p
@@ -194,17 +192,3 @@ le-not-lt x y h = go (lt x y) (lt-asym x y) h
     go : (b : Bool) → (T b → T (not (lt y x))) → T (b || eq x y) → T (not (lt y x))
     go true k h = k tt
     go false k h = eq-not-lt x y h
-
--- equal values of one format, neither with a minus sign, are one float (with signs, -0 equals +0). The infinity counts too
-pub eq-same : (f : Format) (x y : Float) → fits f x ≡ true → fits f y ≡ true → NotNegative x → NotNegative y → eq x y ≡ true → x ≡ y
-unfolding eq
-eq-same f nan y p q a b h = absurd a
-eq-same f (inf s) nan p q a b h = absurd b
-eq-same f (inf s) (inf t) p q a b h = ap inf (a ∙ sym b)
-eq-same f (inf s) (fin t n d) p q a b h = absurd (holds-true h)
-eq-same f (fin s m e) nan p q a b h = absurd b
-eq-same f (fin s m e) (inf t) p q a b h = absurd (holds-true h)
-eq-same f (fin true m e) (fin t n d) p q a b h = absurd (true≢false a)
-eq-same f (fin false m e) (fin true n d) p q a b h = absurd (true≢false b)
-eq-same f (fin false m e) (fin false n d) p q a b h =
-    same-value f false m e n d (holds-true p) (holds-true q) (eqb→eq (m * up e * down d) (n * up d * down e) (and-l (eqb (m * up e * down d) (n * up d * down e)) true (holds-true h)))

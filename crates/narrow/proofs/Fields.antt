@@ -78,6 +78,13 @@ pub mag-le : (p E a b : ℕ) → magOf p E a b ≤ infOf p E
 unfolding magOf
 mag-le p E a b = min-le-right _ _
 
+-- the sign's weight is past infinity's pattern
+pub top-split : (p E : ℕ) → topOf p E ≡ infOf p E + 2 ^ (p - 1)
+top-split p E = ap (λ (y : ℕ). 2 ^ (p - 1) * y) (next (2 * E)) ∙ mul-comm (2 ^ (p - 1)) (suc (2 * E + 1)) ∙ suc-mul (2 * E + 1) (2 ^ (p - 1))
+  where
+    next : (n : ℕ) → n + 2 ≡ suc (n + 1)
+    next n = omega arith
+
 pub packed-lt : (p E : ℕ) (x : Float) → packed p E x < 2 * topOf p E
 unfolding packed
 packed-lt p E x = go x
@@ -89,10 +96,7 @@ packed-lt p E x = go x
     some = pow-pos (p - 1)
 
     split : topOf p E ≡ infOf p E + H
-    split = ap (λ (y : ℕ). H * y) (next (2 * E)) ∙ mul-comm H (suc (2 * E + 1)) ∙ suc-mul (2 * E + 1) H
-      where
-        next : (n : ℕ) → n + 2 ≡ suc (n + 1)
-        next n = omega arith
+    split = top-split p E
 
     signed : (s : Bool) (m : ℕ) → m ≤ infOf p E → cond s (topOf p E) 0 + m < 2 * topOf p E
     signed true m h = omega (arith, split, some)

@@ -14,7 +14,7 @@ use Rattle.narrow.proofs.Cmp.{nearest-down}
 use Rattle.narrow.proofs.Digits.{size-is}
 
 -- the powers of a product, as one
-three : (s a b c : ℕ) → s * 2 ^ a * 2 ^ b * 2 ^ c ≡ s * 2 ^ (a + b + c)
+pub three : (s a b c : ℕ) → s * 2 ^ a * 2 ^ b * 2 ^ c ≡ s * 2 ^ (a + b + c)
 three s a b c = mul-assoc (s * 2 ^ a) (2 ^ b) (2 ^ c) ∙ mul-assoc s (2 ^ a) (2 ^ b * 2 ^ c) ∙ ap (λ (x : ℕ). s * x) (sym (mul-assoc (2 ^ a) (2 ^ b) (2 ^ c)) ∙ ap (λ (x : ℕ). x * 2 ^ c) (sym (pow-add 2 a b)) ∙ sym (pow-add 2 (a + b) c))
 
 -- s * 2 ^ e * 2 ^ l / 2 ^ L is s * 2 ^ e / 2 ^ c, for L = l + c

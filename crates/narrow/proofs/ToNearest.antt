@@ -26,11 +26,17 @@ record Best (f : ℕ → ℕ) (top n q : ℕ) : Type 0 where
   even : (o : ℕ) → o ≤ top → o ≢ q → apart n (f q) ≡ apart n (f o) → q % 2 ≡ 0
 
 module _ (f : ℕ → ℕ) (up : (m : ℕ) → f m < f (suc m)) where
-  rises : (a b : ℕ) → a < b → f a < f b
-  rises a zero h = absurd (omega arith)
-  rises a (suc b) h = elim (eq-or-lt-of-le (le-of-suc-le-suc h)) [
+  pub rising : (a b : ℕ) → a < b → f a < f b
+  rising a zero h = absurd (omega arith)
+  rising a (suc b) h = elim (eq-or-lt-of-le (le-of-suc-le-suc h)) [
     | inl e ↦ subst (λ (x : ℕ). f x < f (suc b)) (sym e) (up b)
-    | inr l ↦ lt-trans (rises a b l) (up b)
+    | inr l ↦ lt-trans (rising a b l) (up b)
+  ]
+
+  pub rises : (a b : ℕ) → a ≤ b → f a ≤ f b
+  rises a b h = elim (eq-or-lt-of-le h) [
+    | inl e ↦ le-of-eq (ap f e)
+    | inr l ↦ le-of-lt (rising a b l)
   ]
 
   -- past the last value
@@ -38,19 +44,13 @@ module _ (f : ℕ → ℕ) (up : (m : ℕ) → f m < f (suc m)) where
   best-last top n h = record {
     nearer = λ (o : ℕ) l. elim (eq-or-lt-of-le l) [
       | inl e ↦ le-of-eq (ap (λ (x : ℕ). apart n (f x)) (sym e))
-      | inr g ↦ let a = rises o top g in omega arith
+      | inr g ↦ let a = rising o top g in omega arith
     ];
     even = λ (o : ℕ) l d e. elim (eq-or-lt-of-le l) [
       | inl i ↦ absurd (d i)
-      | inr g ↦ let a = rises o top g in absurd (omega arith)
+      | inr g ↦ let a = rising o top g in absurd (omega arith)
     ];
   }
-
-  past : (m o : ℕ) → m < o → f (suc m) ≤ f o
-  past m o h = elim (eq-or-lt-of-le h) [
-    | inl e ↦ le-of-eq (ap f e)
-    | inr l ↦ le-of-lt (rises (suc m) o l)
-  ]
 
   -- n is r above the value of m, and the step to the next value is u
   module _ (top n m r u : ℕ) (foot : f m + r ≡ n) (step : f (suc m) ≡ f m + u) (small : r < u) where
@@ -61,14 +61,14 @@ module _ (f : ℕ → ℕ) (up : (m : ℕ) → f m < f (suc m)) where
     }
       where
         near : (o : ℕ) → Place o m → apart n (f m) ≤ apart n (f o)
-        near o (before g) = omega (arith, rises o m g)
+        near o (before g) = omega (arith, rising o m g)
         near o (at e) = le-of-eq (ap (λ (x : ℕ). apart n (f x)) (sym e))
-        near o (after g) = omega (arith, past m o g)
+        near o (after g) = omega (arith, rises (suc m) o g)
 
         tied : (o : ℕ) → o ≢ m → apart n (f m) ≡ apart n (f o) → Place o m → m % 2 ≡ 0
-        tied o d e (before g) = absurd (omega (arith, rises o m g))
+        tied o d e (before g) = absurd (omega (arith, rising o m g))
         tied o d e (at i) = absurd (d i)
-        tied o d e (after g) = t (omega (arith, past m o g))
+        tied o d e (after g) = t (omega (arith, rises (suc m) o g))
 
     best-high : u ≤ r * 2 → (r * 2 ≡ u → suc m % 2 ≡ 0) → Best f top n (suc m)
     best-high h t = record {
@@ -76,21 +76,15 @@ module _ (f : ℕ → ℕ) (up : (m : ℕ) → f m < f (suc m)) where
       even = λ (o : ℕ) l d e. tied o d e (place o (suc m));
     }
       where
-        below : (o : ℕ) → o < suc m → f o ≤ f m
-        below o g = elim (eq-or-lt-of-le (le-of-suc-le-suc g)) [
-          | inl e ↦ le-of-eq (ap f e)
-          | inr l ↦ le-of-lt (rises o m l)
-        ]
-
         near : (o : ℕ) → Place o (suc m) → apart n (f (suc m)) ≤ apart n (f o)
-        near o (before g) = omega (arith, below o g)
+        near o (before g) = omega (arith, rises o m (le-of-suc-le-suc g))
         near o (at e) = le-of-eq (ap (λ (x : ℕ). apart n (f x)) (sym e))
-        near o (after g) = omega (arith, rises (suc m) o g)
+        near o (after g) = omega (arith, rising (suc m) o g)
 
         tied : (o : ℕ) → o ≢ suc m → apart n (f (suc m)) ≡ apart n (f o) → Place o (suc m) → suc m % 2 ≡ 0
-        tied o d e (before g) = t (omega (arith, below o g))
+        tied o d e (before g) = t (omega (arith, rises o m (le-of-suc-le-suc g)))
         tied o d e (at i) = absurd (d i)
-        tied o d e (after g) = absurd (omega (arith, rises (suc m) o g))
+        tied o d e (after g) = absurd (omega (arith, rising (suc m) o g))
 
     best-tie : r * 2 ≡ u → Best f top n (m + m % 2)
     best-tie h = elim (eq-or-lt-of-le (zero-le {n = m % 2})) [
@@ -118,7 +112,7 @@ module _ (f : ℕ → ℕ) (up : (m : ℕ) → f m < f (suc m)) where
         go : Place m top → Best f top n (min q top)
         go (before h) = subst (Best f top n) (sym (min-eq-left (le-trans (nearest-le m (compare (r * 2) u)) h))) best-step
         go (at e) = last (le-of-eq (sym e)) (le-of-eq (ap f (sym e)))
-        go (after h) = last (le-of-lt h) (le-of-lt (rises top m h))
+        go (after h) = last (le-of-lt h) (rises top m (le-of-lt h))
 
 lt-by : {a b c d : ℕ} → a ≡ c → b ≡ d → c < d → a < b
 lt-by e f h = omega arith
@@ -131,11 +125,15 @@ module _ (H : ℕ) (some : 0 < H) where
   value-low : (m : ℕ) → m < H → value H m ≡ m
   value-low m h = rw (lt-ltb m H h, div-eq-of-lt h) (mul-one m)
 
+  value-high : (m : ℕ) → H ≤ m → value H m ≡ (H + m % H) * 2 ^ (m / H - 1)
+  value-high m h = rw (le-ltb m H h)
+
   one-less : (x : ℕ) → suc x - 1 ≡ x
   one-less x = omega arith
 
-  value-high : (x t : ℕ) → t < H → value H (suc x * H + t) ≡ (H + t) * 2 ^ x
-  value-high x t h = rw (le-ltb (suc x * H + t) H (omega (arith, suc-mul x H)), digits-div (suc x) h, digits-mod (suc x) h, one-less)
+  -- the fields x + 1 and t
+  value-fields : (x t : ℕ) → t < H → value H (suc x * H + t) ≡ (H + t) * 2 ^ x
+  value-fields x t h = rw (value-high (suc x * H + t) (omega (arith, suc-mul x H)), digits-div (suc x) h, digits-mod (suc x) h, one-less)
 
   -- the pattern with k in the exponent's field and the digits w added, whose leading one may carry into the field
   value-at : (k w : ℕ) → w ≤ H + H → (0 < k → H ≤ w) → value H (k * H + w) ≡ w * 2 ^ k
@@ -148,11 +146,11 @@ module _ (H : ℕ) (some : 0 < H) where
       high : H ≤ w → (w ≡ H + H) ⊎ (w < H + H) → value H (k * H + w) ≡ w * 2 ^ k
       high l (inl e) =
           let t : k * H + w ≡ suc (suc k) * H + 0 = omega (arith, suc-mul (suc k) H, suc-mul k H) in
-          rw (t, value-high (suc k) 0 some, e, two-pow-succ) (omega (arith, add-mul H H (2 ^ k), mul-add H (2 ^ k) (2 ^ k)))
+          rw (t, value-fields (suc k) 0 some, e, two-pow-succ) (omega (arith, add-mul H H (2 ^ k), mul-add H (2 ^ k) (2 ^ k)))
       high l (inr j) =
           let t : k * H + w ≡ suc k * H + (w - H) = omega (arith, suc-mul k H) in
           let d : H + (w - H) ≡ w = omega arith in
-          rw (t, value-high k (w - H) (omega arith), d)
+          rw (t, value-fields k (w - H) (omega arith), d)
 
       go : Place w H → value H (k * H + w) ≡ w * 2 ^ k
       go (before l) = low l (eq-or-lt-of-le (zero-le {n = k}))
@@ -182,6 +180,14 @@ module _ (H : ℕ) (some : 0 < H) where
       go (after l) = high (le-of-lt l)
 
 -- ---- the format's patterns
+pub units-low : (p m : ℕ) → m < 2 ^ (p - 1) → unitsOf p m ≡ m
+unfolding unitsOf
+units-low p m h = value-low (2 ^ (p - 1)) (pow-pos (p - 1)) m h
+
+pub units-high : (p m : ℕ) → 2 ^ (p - 1) ≤ m → unitsOf p m ≡ (2 ^ (p - 1) + m % 2 ^ (p - 1)) * 2 ^ (m / 2 ^ (p - 1) - 1)
+unfolding unitsOf
+units-high p m h = value-high (2 ^ (p - 1)) (pow-pos (p - 1)) m h
+
 pub units-at : (p k w : ℕ) → w ≤ 2 ^ (p - 1) + 2 ^ (p - 1) → (0 < k → 2 ^ (p - 1) ≤ w) → unitsOf p (k * 2 ^ (p - 1) + w) ≡ w * 2 ^ k
 unfolding unitsOf
 units-at p k w h g = value-at (2 ^ (p - 1)) (pow-pos (p - 1)) k w h g
@@ -197,7 +203,7 @@ units-le p a b h = go (place a b)
     go : Place a b → a ≤ b
     go (before l) = le-of-lt l
     go (at e) = le-of-eq e
-    go (after g) = absurd (omega (arith, rises (unitsOf p) (units-up p) b a g))
+    go (after g) = absurd (omega (arith, rising (unitsOf p) (units-up p) b a g))
 
 -- infinity's pattern counts as 2 ^ (emax + 1)
 pub units-inf : (p emax : ℕ) → 2 ≤ p → unitsOf p (infOf p emax) ≡ 2 ^ suc emax * 2 ^ lowOf p emax

@@ -12,7 +12,7 @@ use borrow.Author.Tests.{lt-ltb, le-ltb, le-leb, lt-leb, eq-eqb, ne-eqb}
 use Rattle.narrow.specs.Format.{lowOf, infOf, topOf, digitsOf, scaleOf, unitsOf, unpacked}
 use Rattle.narrow.specs.Pack.{packed}
 use Rattle.narrow.proofs.Cmp.{Place, before, at, after, place}
-use Rattle.narrow.proofs.Fields.{packed-value, packed-inf, field-odd, field-inf, field-nan}
+use Rattle.narrow.proofs.Fields.{packed-value, packed-inf, field-odd, field-inf, field-nan, top-split}
 use Rattle.narrow.proofs.PackLaw.{top-is}
 use Rattle.narrow.proofs.ToNearest.{rounded-exact}
 
@@ -130,3 +130,11 @@ unpacked-is f b =
     ∙ ap (λ (t : ℕ). valueOf (prec f) (emax f) (leb t b) (b % t)) (sym (top-is f))
     ∙ of-fields f (leb (top f) b) (b % top f) (mod-lt b (mul-pos (pow-pos (prec f - 1)) (zero-lt-suc (ones f)))) (place (b % top f) (ones f * hid f))
     ∙ ap (ofFields f (leb (top f) b) (b % top f / hid f)) (mod-mod-of-dvd (hid f) {b = top f} b (dvd-mul-right (hid f) (suc (ones f))))
+
+-- so `ofBits` reads the pattern m, below infinity's, as unitsOf m of the smallest value
+pub ofBits-value : (f : Format) (m : ℕ) → m < ones f * hid f → HasValue (ofBits f m) false (unitsOf (prec f) m) (2 ^ low f)
+ofBits-value f m h =
+    let p = prec f in
+    let E = emax f in
+    let t : m < topOf p E = omega (arith, top-split p E) in
+    subst (λ (x : Float). HasValue x false (unitsOf p m) (2 ^ low f)) (sym (unpacked-fin p E m t h) ∙ unpacked-is f m) (units-value p (low f) false m)

@@ -35,15 +35,15 @@ abbrev pub apart : ℕ → ℕ → ℕ
 apart a b = (a - b) + (b - a)
 
 -- how far num / den is from what the pattern m stands for, in units of the smallest value and times den
-abbrev pub errorOf : ℕ → ℕ → ℕ → ℕ → ℕ → ℕ
-errorOf p emax num den m = apart (num * 2 ^ lowOf p emax) (den * unitsOf p m)
+abbrev pub offBy : ℕ → ℕ → ℕ → ℕ → ℕ → ℕ
+offBy p emax num den m = apart (num * 2 ^ lowOf p emax) (den * unitsOf p m)
 
 -- m is the pattern of num / den, rounded to nearest, ties to even: no pattern of the format is nearer, and where another is as near, m is even.
 -- With infinity's counted as 2 ^ (emax + 1) this is also IEEE 754's rule for overflow.
 pub record Rounded (p emax num den m : ℕ) : Type 0 where
   pub within : m ≤ infOf p emax
-  pub none-nearer : (o : ℕ) → o ≤ infOf p emax → errorOf p emax num den m ≤ errorOf p emax num den o
-  pub tie-even : (o : ℕ) → o ≤ infOf p emax → o ≢ m → errorOf p emax num den m ≡ errorOf p emax num den o → m % 2 ≡ 0
+  pub none-nearer : (o : ℕ) → o ≤ infOf p emax → offBy p emax num den m ≤ offBy p emax num den o
+  pub tie-even : (o : ℕ) → o ≤ infOf p emax → o ≢ m → offBy p emax num den m ≡ offBy p emax num den o → m % 2 ≡ 0
 
 -- the value of the pattern b, its sign included: every NaN pattern is `nan`, and a finite one is unitsOf p m / 2 ^ lowOf, exactly
 unfoldable pub unpacked : ℕ → ℕ → ℕ → Float

@@ -1,20 +1,20 @@
 -- What a root keeps: no sign, no NaN, the format, and every bound that is the square of a value of the format. Assumes nothing.
 use mathlib.Core.Path.{_≡_, sym, ap, _∙_, subst}
 use mathlib.Core.Logic.{inl, inr}
-use Prim.Native.Nat.{ℕ, zero, suc, _+_, _-_, _*_, _/_, _%_, _^_, _≤_, _<_, zero-le}
-use native.Mathlib.Nat.{le-trans, le-of-eq, le-of-lt, lt-of-le-of-lt, lt-of-lt-of-le, lt-of-not-le, not-le-of-lt, le-of-suc-le-suc, eq-zero-or-pos, mul-one, one-mul, zero-mul, mul-assoc, mul-left-comm, mul-right-comm, mul-le-mul-right, mul-pos, le-of-mul-le-mul-right, lt-of-mul-lt-mul-right, le-div-iff-mul-le, zero-lt-suc, two-mul, sub-add-cancel}
+use Prim.Native.Nat.{ℕ, zero, suc, _+_, _*_, _/_, _%_, _^_, _≤_, _<_, zero-le}
+use native.Mathlib.Nat.{le-trans, le-of-eq, le-of-lt, lt-of-lt-of-le, lt-of-not-le, not-le-of-lt, le-of-suc-le-suc, eq-zero-or-pos, mul-one, one-mul, zero-mul, mul-assoc, mul-left-comm, mul-right-comm, mul-le-mul-right, mul-pos, le-of-mul-le-mul-right, lt-of-mul-lt-mul-right, le-div-iff-mul-le, zero-lt-suc, two-mul}
 use native.Mathlib.Omega.{arith}
-use mathlib.Core.Bool.{Bool, true, false, not, _&&_, _||_, cond, true≢false}
-use lib.Dec.{T, leb, ltb, eqb, ltb→lt, eqb→eq, lit<}
+use mathlib.Core.Bool.{Bool, true, false, not, _&&_, cond, true≢false}
+use lib.Dec.{T, leb, ltb, eqb, ltb→lt, lit<}
 use lib.Arith.{lt-of-le-ne}
-use lib.Pow.{pow-add, pow-pos, pow-lt}
+use lib.Pow.{pow-add, pow-pos}
 use lib.Ieee.{Float, nan, inf, fin, Format, binary64, low, up, down, round, le, fits, isNan}
 use lib.Ieee.Fits.{eq→eqb, and-r, down-pos, round-fits, nan-fits}
 use lib.Ieee.Exact.{HasValue}
 use lib.Ieee.Order.{round-mono}
 use lib.Ieee.Scale.{finite}
 use Rattle.ieee.specs.Bounds.{AtMost, AtLeast, Upto, NotNegative, HoldsFraction}
-use Rattle.ieee.proofs.Bound.{round-not-negative, round-at-most, fraction-value, holds-fraction, at-most-finite}
+use Rattle.ieee.proofs.Bound.{or-le, round-not-negative, round-at-most, fraction-value, holds-fraction, at-most-finite}
 use Rattle.root.specs.Sqrt.{isqrt, rootOf, sqrtOf}
 use Rattle.root.proofs.Isqrt.{sq-mono, sq-lt, sq-mul, not-above, isqrt-at}
 
@@ -101,14 +101,6 @@ root-at-most f num den a c D C v h =
     (le-trans (mul-le-mul-right c (cut-at-most (num * (L * L)) den B D (units-at-most num den a c B L C (v .is) h))) (le-of-eq (twice num den a c B L C (v .is))))
 
 -- at least a finite value that is not negative
-or-le : (a b : ℕ) → T (ltb a b || (eqb a b && true)) → a ≤ b
-or-le a b t = go (ltb a b) (eqb a b) (ltb→lt a b) (eqb→eq a b) t
-  where
-    go : (x y : Bool) → (T x → a < b) → (T y → a ≡ b) → T (x || (y && true)) → a ≤ b
-    go true y h k t = le-of-lt (h tt)
-    go false true h k t = le-of-eq (k tt)
-    go false false h k t = absurd t
-
 over : (x y : Float) (a c : ℕ) → HasValue y false a c → NotNegative x → T (finite x) → T (le y x) → AtLeast x a c
 unfolding le
 over x nan a c v p t h = absurd v
@@ -146,16 +138,6 @@ sqrt-at-most f (fin false (suc m) e) a c C v n h = root-at-most f (suc m * up e)
 -- 2 ^ j is a value of the format
 power : (j : ℕ) → j ≤ 971 → HoldsFraction binary64 (2 ^ j) 1
 power j h = holds-fraction binary64 (2 ^ j) (record { q = 1; j = j; small = lit< tt; reach = omega arith; is = sym (one-mul (2 ^ j)) })
-
--- and so is 1 / 2 ^ i
-small-power : (i : ℕ) → i ≤ 1074 → HoldsFraction binary64 1 (2 ^ i)
-small-power i h = record {
-  q = 1;
-  j = 1074 - i;
-  small = lit< tt;
-  under = lt-of-le-of-lt (le-of-eq (one-mul (2 ^ (1074 - i)))) (pow-lt {i = 1074 - i} {j = 2098} (omega arith));
-  is = one-mul (2 ^ 1074) ∙ ap (λ (z : ℕ). 2 ^ z) (sym (sub-add-cancel h)) ∙ pow-add 2 (1074 - i) i ∙ ap (λ (z : ℕ). z * 2 ^ i) (sym (one-mul (2 ^ (1074 - i))));
-}
 
 squared : (j : ℕ) → 2 ^ (2 * j) ≡ 2 ^ j * 2 ^ j
 squared j = ap (λ (z : ℕ). 2 ^ z) (two-mul j) ∙ pow-add 2 j j
@@ -195,7 +177,3 @@ sqrt-at-least (fin false (suc m) e) a c C v f n h =
 -- at least 4 ^ i, so at least 2 ^ i
 pub sqrt-at-least-power : (x : Float) (i : ℕ) → i ≤ 500 → T (fits binary64 x) → NotNegative x → AtLeast x (2 ^ (2 * i)) 1 → AtLeast (sqrtOf binary64 x) (2 ^ i) 1
 sqrt-at-least-power x i l f n h = sqrt-at-least x (2 ^ i) 1 (zero-lt-suc 0) (power i (omega arith)) f n (subst (λ (z : ℕ). AtLeast x z 1) (squared i) h)
-
--- at least 1 / 4 ^ i, so at least 1 / 2 ^ i
-pub sqrt-at-least-fraction : (x : Float) (i : ℕ) → i ≤ 500 → T (fits binary64 x) → NotNegative x → AtLeast x 1 (2 ^ (2 * i)) → AtLeast (sqrtOf binary64 x) 1 (2 ^ i)
-sqrt-at-least-fraction x i l f n h = sqrt-at-least x 1 (2 ^ i) (pow-pos i) (small-power i (omega arith)) f n (subst (λ (z : ℕ). AtLeast x 1 z) (squared i) h)

@@ -1,7 +1,6 @@
 pub mod Isqrt
 pub mod Steps
 pub mod Rounded
-pub mod Units
 pub mod Bounds
 pub mod Nearest
 pub mod Examples

@@ -19,7 +19,8 @@ use Rattle.narrow.specs.Format.{unitsOf}
 use Rattle.root.specs.Nearest.{square, inUnits, NearestRoot}
 use Rattle.root.proofs.Isqrt.{Between, sq-mul, sq-mono, sq-lt, isqrt-at}
 use Rattle.root.proofs.Rounded.{odd-square, Scaled, radicand, halved, root-low, root-high, in-units, root-is, positive-root}
-use Rattle.root.proofs.Units.{units-at, rising, rises, units-value}
+use Rattle.narrow.proofs.ToNearest.{rising, rises, units-at, units-up}
+use Rattle.narrow.proofs.Unpacked.{ofBits-value}
 use Rattle.root.proofs.Bounds.{sqrt-fits}
 
 -- ---- the squares of sums of two neighbours, against 4 * N * G * G / den
@@ -71,7 +72,7 @@ module _ (N g d r q half : ℕ) (D : 0 < d) (b : Between N r) (e2 : N ≡ 2 * ha
   lower : (k : ℕ) → r % 2 ≡ k → square (unitsOf 53 (pat - 1) + unitsOf 53 pat) * d < 4 * (N * (G * G) * d)
   lower zero z =
       let u : unitsOf 53 pat ≡ r * G = here ∙ ap (λ (x : ℕ). x * G) (omega arith) in
-      let l : unitsOf 53 (pat - 1) < unitsOf 53 pat = rising 53 (pat - 1) pat (omega arith) in
+      let l : unitsOf 53 (pat - 1) < unitsOf 53 pat = rising (unitsOf 53) (units-up 53) (pat - 1) pat (omega arith) in
       under N G d D (pow-pos g) (unitsOf 53 (pat - 1) + unitsOf 53 pat) r (omega arith) (b .0)
   lower (suc zero) z =
       let u : unitsOf 53 pat ≡ suc r * G = here ∙ ap (λ (x : ℕ). x * G) (omega arith) in
@@ -98,7 +99,7 @@ module _ (N g d r q half : ℕ) (D : 0 < d) (b : Between N r) (e2 : N ≡ 2 * ha
       after a q = omega arith
   upper (suc zero) z =
       let u : unitsOf 53 pat ≡ suc r * G = here ∙ ap (λ (x : ℕ). x * G) (omega arith) in
-      let l : unitsOf 53 pat < unitsOf 53 (pat + 1) = rising 53 pat (pat + 1) (omega arith) in
+      let l : unitsOf 53 pat < unitsOf 53 (pat + 1) = rising (unitsOf 53) (units-up 53) pat (pat + 1) (omega arith) in
       from N G d D (pow-pos g) (unitsOf 53 pat + unitsOf 53 (pat + 1)) (suc r) (omega arith) (b .1)
   upper (suc (suc k)) z = absurd (omega arith)
 
@@ -206,12 +207,12 @@ nearest-root x p f =
 pub root-value : (x : Float) → T (positive x) → T (fits binary64 x) → HasValue (sqrtOf binary64 x) false (unitsOf 53 (toBits binary64 (sqrtOf binary64 x))) (2 ^ low binary64)
 root-value x p f =
     let y = sqrtOf binary64 x in
-    subst (λ (v : Float). HasValue v false (unitsOf 53 (toBits binary64 y)) (2 ^ low binary64)) (ofBits-toBits binary64 y (sqrt-fits binary64 x f)) (units-value binary64 (toBits binary64 y) (nearest-root x p f .finite))
+    subst (λ (v : Float). HasValue v false (unitsOf 53 (toBits binary64 y)) (2 ^ low binary64)) (ofBits-toBits binary64 y (sqrt-fits binary64 x f)) (ofBits-value binary64 (toBits binary64 y) (nearest-root x p f .finite))
 
 -- So the root is strictly nearer to it than to the value of any other pattern m: it lies on this side of the point half way to that.
 module _ (f : Format) (n d r : ℕ) (h : NearestRoot f n d r) where
   pub nearer-than-higher : (m : ℕ) → r < m → 4 * inUnits f n < square (unitsOf (prec f) r + unitsOf (prec f) m) * d
-  nearer-than-higher m l = lt-of-lt-of-le (h .below-upper) (mul-le-mul-right d (sq-mono _ _ (add-le-add (le-refl (unitsOf (prec f) r)) (rises (prec f) (r + 1) m (omega arith)))))
+  nearer-than-higher m l = lt-of-lt-of-le (h .below-upper) (mul-le-mul-right d (sq-mono _ _ (add-le-add (le-refl (unitsOf (prec f) r)) (rises (unitsOf (prec f)) (units-up (prec f)) (r + 1) m (omega arith)))))
 
   pub nearer-than-lower : (m : ℕ) → m < r → square (unitsOf (prec f) m + unitsOf (prec f) r) * d < 4 * inUnits f n
-  nearer-than-lower m l = lt-of-le-of-lt (mul-le-mul-right d (sq-mono _ _ (add-le-add (rises (prec f) m (r - 1) (omega arith)) (le-refl (unitsOf (prec f) r))))) (h .above-lower)
+  nearer-than-lower m l = lt-of-le-of-lt (mul-le-mul-right d (sq-mono _ _ (add-le-add (rises (unitsOf (prec f)) (units-up (prec f)) m (r - 1) (omega arith)) (le-refl (unitsOf (prec f) r))))) (h .above-lower)

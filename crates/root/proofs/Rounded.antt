@@ -1,20 +1,21 @@
 -- The pattern of the rounded root, by a root that has one digit more than an f64 keeps. Assumes nothing.
 use mathlib.Core.Path.{_≡_, refl, sym, ap, _∙_, subst}
 use Prim.Native.Nat.{ℕ, zero, suc, _+_, _-_, _*_, _/_, _%_, _^_, _≤_, _<_, min, compare, zero-le}
-use native.Mathlib.Nat.{le-refl, le-trans, le-of-eq, le-antisymm, lt-of-le-of-lt, lt-of-lt-of-le, lt-of-not-le, not-le-of-lt, mul-one, mul-comm, mul-assoc, mul-left-comm, mul-right-comm, mul-le-mul-left, mul-le-mul-right, eq-of-mul-eq-mul-right, mul-pos, add-mul, mul-mul-mul-comm, mul-div-cancel, div-add-mod', mod-lt, min-eq-left, zero-lt-suc, suc-mul, pow-suc, zero-add}
+use native.Mathlib.Nat.{le-refl, le-trans, le-of-eq, lt-of-le-of-lt, lt-of-lt-of-le, lt-of-not-le, mul-one, mul-comm, mul-assoc, mul-left-comm, mul-right-comm, mul-le-mul-left, mul-le-mul-right, eq-of-mul-eq-mul-right, mul-pos, add-mul, mul-mul-mul-comm, mul-div-cancel, div-add-mod', mod-lt, min-eq-left, zero-lt-suc, suc-mul, pow-suc, zero-add}
 use native.Mathlib.Omega.{arith}
 use mathlib.Core.Bool.{Bool, true, false, cond}
 use lib.Dec.{T, eqb, eqb→eq}
 use lib.Arith.{digits-div, digits-mod}
-use lib.Pow.{pow-add, pow-pos, pow-mono}
+use lib.Pow.{pow-add, pow-pos}
 use lib.Ieee.{Float, nan, inf, fin, Format, binary64, low, size, nearest, round, toBits}
-use lib.Ieee.Digits.{size-lt, size-le}
 use lib.Ieee.Fits.{eq→eqb}
 use lib.Ieee.Nearest.{closest, closest-same, div-same}
 use lib.Ieee.Positive.{num, den, positive}
 use Rattle.root.specs.Sqrt.{isqrt, rootOf, sqrtOf}
 use Rattle.narrow.specs.Pack.{magOf}
 use Rattle.narrow.proofs.PackLaw.{toBits-round}
+use Rattle.narrow.proofs.MagLaw.{three}
+use Rattle.narrow.proofs.Digits.{size-is}
 use Rattle.narrow.proofs.Cmp.{nearest-down, nearest-up}
 use Rattle.root.proofs.Isqrt.{Between, sq-mono, not-above, unique, isqrt-at, shrink}
 
@@ -71,9 +72,6 @@ module _ (N G s r y t half : ℕ) (P : 0 < G) (whole : r * G + y ≡ s) (Y : y <
       go (suc (suc d)) e = absurd (omega arith)
 
 -- ---- the digits of s
-size-is : (n j : ℕ) → 2 ^ j ≤ n → n < 2 ^ suc j → size n ≡ suc j
-size-is n j h k = le-antisymm (size-le n (suc j) k) (lt-of-not-le (λ (g : size n ≤ j). not-le-of-lt (lt-of-lt-of-le (size-lt n) (pow-mono g)) h))
-
 size-root : (p g s : ℕ) → 2 ^ p ≤ s / 2 ^ g → s / 2 ^ g < 2 ^ suc p → size s ≡ suc (p + g)
 size-root p g s a b =
     let w = div-add-mod' s (2 ^ g) in
@@ -184,9 +182,6 @@ radicand sig h = sig * (1 + h % 2) * 2 ^ 54
 
 abbrev pub halved : ℕ → ℕ
 halved h = h / 2 + 484
-
-three : (s a b c : ℕ) → s * 2 ^ a * 2 ^ b * 2 ^ c ≡ s * 2 ^ (a + b + c)
-three s a b c = mul-assoc (s * 2 ^ a) (2 ^ b) (2 ^ c) ∙ mul-assoc s (2 ^ a) (2 ^ b * 2 ^ c) ∙ ap (λ (x : ℕ). s * x) (sym (mul-assoc (2 ^ a) (2 ^ b) (2 ^ c)) ∙ ap (λ (x : ℕ). x * 2 ^ c) (sym (pow-add 2 a b)) ∙ sym (pow-add 2 (a + b) c))
 
 halves : (n d s a b h o c g : ℕ) → n * 2 ^ a ≡ s * 2 ^ h * d → h + b ≡ o + c + (g + g) → n * 2 ^ (a + b) ≡ s * 2 ^ o * 2 ^ c * (2 ^ g * 2 ^ g) * d
 halves n d s a b h o c g e k =

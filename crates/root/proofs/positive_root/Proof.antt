@@ -10,7 +10,8 @@ use borrow.Author.Needs.{needs}
 use Rattle.root.specs.Sqrt.{sqrtOf, rootOf}
 use Rattle.narrow.specs.Format.{unitsOf}
 use Rattle.root.proofs.Rounded.{rootOf-same, positive-root}
-use Rattle.root.proofs.Units.{units-low, units-high, units-value}
+use Rattle.narrow.proofs.ToNearest.{units-low, units-high}
+use Rattle.narrow.proofs.Unpacked.{ofBits-value}
 use Rattle.root.proofs.positive_root.Statement.{statement}
 use Rattle.root.proofs.positive_root.Tie as tie
 
@@ -18,7 +19,7 @@ use Rattle.root.proofs.positive_root.Tie as tie
 found : (b sig h : ℕ) → b < 0x7ff0000000000000 → 0 < unitsOf 53 b → unitsOf 53 b * 2 ^ 52 ≡ sig * 2 ^ h → toBits binary64 (rootOf binary64 (sig * 2 ^ h) (2 ^ 1126)) ≡ toBits binary64 (sqrtOf binary64 (ofBits binary64 b))
 found b sig h l W e =
     let x = ofBits binary64 b in
-    let v = units-value binary64 b l in
+    let v = ofBits-value binary64 b l in
     let c : num x * 2 ^ 1126 ≡ sig * 2 ^ h * den x =
     sym (mul-assoc (num x) (2 ^ 1074) (2 ^ 52)) ∙ ap (λ (z : ℕ). z * 2 ^ 52) (value→cross x (unitsOf 53 b) (2 ^ 1074) v) ∙ mul-right-comm (unitsOf 53 b) (den x) (2 ^ 52) ∙ ap (λ (z : ℕ). z * den x) e in
     ap (toBits binary64) (sym (rootOf-same binary64 (num x) (den x) (sig * 2 ^ h) (2 ^ 1126) (den-pos x) (pow-pos 1126) c) ∙ sym (positive-root binary64 x (positive-of-value x (unitsOf 53 b) (2 ^ 1074) v W)))
