@@ -67,6 +67,7 @@ pub struct RefineState {
 }
 
 // Where a refinement stands: a repair was made and its event is to be written, or it has stopped with its answer.
+// Nothing reads its answer while it goes on, nor its event and state once it has stopped with its answer: there they are free.
 pub struct RefineStep {
     pub going: bool,
     // Updating has begun, so that work and event slots are zeroed if it is refused.
@@ -228,7 +229,7 @@ pub fn stop(begun: bool, s: RefineState, answer: Refinement) -> RefineStep
 // Where a turn of the repairs leaves a refinement.
 fn paused(profile: FibQuantProfile, s: RefineState, turn: Turn) -> Pause
     requires { ⌜ (s .before ≤ 1048576) × (s .made ≤ 1048576) ⌝ }
-    ensures { λ p. ⌜ Paused (profile .«codebook_size») s turn p ⌝ }
+    ensures { λ p. ⌜ Paused profile s turn p ⌝ }
 {
     let mut state = s;
     match turn {

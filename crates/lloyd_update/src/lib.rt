@@ -11,6 +11,7 @@ ghost use Rattle.error.specs.Numbers.{checked};
 ghost use Rattle.ieee.specs.Sum.{plusZero};
 ghost use Rattle.slices.specs.Lists.{patched};
 ghost use Rattle.lloyd_events.specs.declared.LloydRepairEvent.{LloydRepairEvent};
+ghost use Rattle.lloyd_events.specs.Events.{zeroEvent};
 ghost use Rattle.lloyd_cells.specs.Cells.{countTo};
 ghost use Rattle.lloyd_cells.specs.Repair.{Repaired};
 ghost use Rattle.lloyd_update.specs.Alone.{Call, updateChecks, valueChecks};
@@ -42,6 +43,7 @@ pub struct UpdateTerms {
 }
 
 // Where an update stands: a repair was made and its event is to be written, or it has stopped with its answer.
+// Nothing reads its answer while it goes on, nor its event and next cell once it has stopped: there they are free.
 pub struct Step {
     pub going: bool,
     // Updating has begun, so that work and event slots are zeroed if it is refused.
@@ -204,7 +206,7 @@ pub fn count_empty(counts: &[u32]) -> usize
 
 // Stopped with an answer, before updating began or once it has.
 fn stop(begun: bool, answer: Updated) -> Step
-    ensures { λ s. ⌜ (s .going ≡ false) × (s .begun ≡ begun) × (s .answer ≡ answer) ⌝ }
+    ensures { λ s. ⌜ (s .going ≡ false) × (s .begun ≡ begun) × (s .answer ≡ answer) × (s .event ≡ zeroEvent) × (s .next ≡ 0) ⌝ }
 {
     Step {
         going: false,
@@ -231,7 +233,7 @@ pub fn next_repair(
     repair_on(samples, work, counts, slots, used, t, s.next)
 }
 
-// The repairs from a cell on, up to the next one that is made.
+// The repairs from a cell on, up to the next one that is made. While the update goes on, its answer is free.
 fn repair_on(
     samples: &[f64],
     work: &mut [f64],
