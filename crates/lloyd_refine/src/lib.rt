@@ -17,7 +17,6 @@ ghost use Rattle.lloyd_search.specs.Nearest.{meanError};
 ghost use Rattle.lloyd_events.specs.declared.LloydRepairEvent.{LloydRepairEvent};
 ghost use Rattle.lloyd_events.specs.Events.{zeroEvent};
 ghost use Rattle.lloyd_cells.specs.Repair.{Repaired};
-ghost use Rattle.lloyd_round.specs.Round.{placesOf};
 ghost use Rattle.lloyd_refine.specs.Refine.{Job, Best, Trained, refineLimit, lengthChecks, refineChecks};
 ghost use Rattle.lloyd_refine.specs.Report.{sameSettings, reportTest};
 ghost use Rattle.lloyd_refine.specs.Standing.{jobOf, InRound, Matches};
@@ -25,7 +24,6 @@ ghost use Rattle.lloyd_refine.specs.Steps.{isReport, reportIn, withBest,
 use error::Checked;
 use error::Refusal;
 use error::names;
-use lloyd_cells::Places;
 use lloyd_events::LloydRepairEvent;
 use lloyd_repair::Numbers;
 use lloyd_repair::RepairTerms;
@@ -86,9 +84,6 @@ pub struct Pause {
 // The largest magnitude that a refinement takes: 2 ^ 20.
 const REFINE_LIMIT: f64 = 1048576.0;
 
-// The most event slots that can be lent.
-const MAX_EVENT_SLOTS: usize = 1_048_576;
-
 // The lengths of the slices, for a profile that is valid. The strings beside it do not matter to them.
 fn check_lengths(
     initial: &[f64],
@@ -125,7 +120,7 @@ fn check_lengths(
     if integers != n + count {
         return Checked::Refused(Refusal::SliceLength(names::INTEGER_WORK_SLICE));
     }
-    if MAX_EVENT_SLOTS < slots {
+    if lloyd_events::MAX_EVENT_SLOTS < slots {
         return Checked::Refused(Refusal::SliceLength(names::EVENT_SLICE));
     }
     Checked::Accepted
@@ -181,18 +176,6 @@ pub fn check_refine(
         sized,
         profile::checks::also(first, profile::checks::also(second, third)),
     )
-}
-
-// Where the parts of an update begin in the float work of a refinement.
-fn places(n: usize, k: usize) -> Places
-    requires { ⌜ 3 * (n * k) + n < 0x1_0000_0000_0000 ⌝ }
-    ensures { λ r. ⌜ r ≡ placesOf n k ⌝ }
-{
-    Places {
-        words: 2 * (n * k),
-        distortions: 3 * (n * k),
-        farthest: 3 * (n * k) + n,
-    }
 }
 
 // The report of what has been found so far.
@@ -289,7 +272,7 @@ pub fn repair_on(
         work,
         ints,
         samples,
-        places(n, k),
+        lloyd_round::places(n, k),
         numbers,
         terms,
         s.next,

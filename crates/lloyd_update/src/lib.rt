@@ -57,9 +57,6 @@ pub struct Step {
 // The largest magnitude that an update takes: 2 ^ 48.
 const UPDATE_LIMIT: f64 = 281474976710656.0;
 
-// The most event slots that can be lent.
-const MAX_EVENT_SLOTS: usize = 1_048_576;
-
 // The checks of an update, in their order.
 fn check_update(
     codebook: &[f64],
@@ -86,7 +83,7 @@ fn check_update(
     if integers as u64 != n {
         return Checked::Refused(Refusal::SliceLength(names::INTEGER_WORK_SLICE));
     }
-    if MAX_EVENT_SLOTS < slots {
+    if lloyd_events::MAX_EVENT_SLOTS < slots {
         return Checked::Refused(Refusal::SliceLength(names::EVENT_SLICE));
     }
     if assignments.len() as u64 != samples.len() as u64 / k {
@@ -133,11 +130,7 @@ fn places(n: usize, k: usize) -> Places
     requires { ⌜ 2 * (n * k) + n < 0x1_0000_0000_0000 ⌝ }
     ensures { λ r. ⌜ r ≡ placesOf n k ⌝ }
 {
-    Places {
-        words: 0,
-        distortions: 2 * (n * k),
-        farthest: 2 * (n * k) + n,
-    }
+    Places::at(0, 2 * (n * k), n)
 }
 
 // Nothing is added up yet: zeros, and farthest distances below every distance.
