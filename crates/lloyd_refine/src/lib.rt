@@ -169,13 +169,18 @@ pub fn check_refine(
         integers,
         slots,
     );
+    if let Checked::Refused(refusal) = sized {
+        return Checked::Refused(refusal);
+    }
     let first = check_values(names::INITIAL_SLICE, initial);
+    if let Checked::Refused(refusal) = first {
+        return Checked::Refused(refusal);
+    }
     let second = check_values(names::SAMPLES_SLICE, samples);
-    let third = check_values(names::MATRIX_SLICE, matrices);
-    profile::checks::also(
-        sized,
-        profile::checks::also(first, profile::checks::also(second, third)),
-    )
+    if let Checked::Refused(refusal) = second {
+        return Checked::Refused(refusal);
+    }
+    check_values(names::MATRIX_SLICE, matrices)
 }
 
 // The report of what has been found so far.
