@@ -23,10 +23,10 @@ use Rattle.lloyd_cells.specs.Repair.{Repaired}
 use Rattle.lloyd_update.specs.Alone.{Call, updateLimit, updateAlone, codebookAfter}
 use Rattle.lloyd_update.specs.Alone as alone
 use Rattle.lloyd_refine.specs.Refine.{Job, sizeOf, dimOf, countOf, restartsOf, iterationsOf, Trained, startOf, Best, refineChecks, restartsTo, slotsAfter}
+use Rattle.lloyd_refine.proofs.CheckLaw.{Passed}
 use Rattle.history.specs.History.{Request, callWith, after, answers, Tallies, AcceptedCall}
 use Rattle.history.proofs.HistoryLaw.{any-call, history}
 use Rattle.refinement.specs.Refinement.{Course, Ran, roundRequest, requestsTo, toWord, Rounds}
-use Rattle.refinement.proofs.ChecksLaw.{Checked}
 use Rattle.refinement.proofs.StandLaw.{rows-bounded, samples-within}
 use Rattle.refinement.proofs.AloneLaw.{alone-done, alone-leaves}
 
@@ -92,7 +92,7 @@ module _ (j : Job) (c : Course) (b : Best) (ran : Ran j c b) where
 same-tallies : (c : Call) (xs ys : List LloydRepairEvent) (n : ℕ) → n ≤ length ys → take n ys ≡ take n xs → Tallies c xs n → Tallies c ys n
 same-tallies c xs ys n l e t = record { reported = l; free = t .free; sound = rw e (t .sound); counted = rw e (t .counted); balanced = rw e (t .balanced) }
 
-module _ (j : Job) (c : Course) (b : Best) (checks : refineChecks j ≡ completed tt) (done : restartsTo j (restartsOf j) ≡ completed b) (ran : Ran j c b) (pass : Checked j)
+module _ (j : Job) (c : Course) (b : Best) (checks : refineChecks j ≡ completed tt) (done : restartsTo j (restartsOf j) ≡ completed b) (ran : Ran j c b) (pass : Passed j)
     (size : (r i : ℕ) → r < restartsOf j → i ≤ iterationsOf j → length (c .stand r i .codebook) ≡ sizeOf j * dimOf j)
     (tame : (r i : ℕ) → r < restartsOf j → i ≤ iterationsOf j → firstOutside updateLimit (c .stand r i .codebook) ≡ Nowhere) (r : ℕ) (l : r < restartsOf j) where
   abbrev callAt : ℕ → Call
@@ -119,11 +119,11 @@ module _ (j : Job) (c : Course) (b : Best) (checks : refineChecks j ≡ complete
       let k = dimOf j in
       let book = rowOf k (c .stand r i .codebook) in
       let x = rowOf k (j .samples) s in
-      let p = pass .profile .shape in
+      let p = pass .valid .shape in
       let some = p .book-least in
       let h : Least (toWord j (c .stand r i) s) n (nearest k n book x) =
       nearest-least 48 (lit≤ tt) k (p .block-most) n (omega arith) book (rows-bounded 48 n k (c .stand r i .codebook) (tame r i l (omega arith)) (size r i l (omega arith))) x
-      (rows-bounded 48 (countOf j) k (j .samples) (samples-within j pass) (pass .samples) s o) in
+      (rows-bounded 48 (countOf j) k (j .samples) (samples-within j pass) (pass .samples-length) s o) in
       subst (λ (w : ℕ). Least (toWord j (c .stand r i) s) n (record { index = w; distance = toWord j (c .stand r i) s w })) (sym (getD-tabulate (countOf j) (λ q. nearest k n book (rowOf k (j .samples) q) .index) s 0 o))
       (subst (λ (y : Float). Least (toWord j (c .stand r i) s) n (record { index = nearest k n book x .index; distance = y })) (h .is) h)
 
