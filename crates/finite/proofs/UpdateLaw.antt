@@ -1,23 +1,20 @@
 -- A call of update alone that passes its checks: every arithmetic result of it is finite, and the codebook that it leaves, where it is accepted, is at most 2 ^ 48 again. Assumes nothing.
 use mathlib.Core.Path.{_≡_}
 use Prim.Native.Nat.{ℕ, _+_, _*_, _/_, _^_, _<_}
-use mathlib.Core.Bool.{not}
-use mathlib.Core.List.{List, [], _∷_}
-use lib.Dec.{eqb, leb, lit≤}
+use mathlib.Core.List.{List}
+use lib.Dec.{lit≤}
 use lib.ListN.{length, getD}
 use lib.Ieee.{Float}
-use Rattle.error.specs.Numbers.{completed, whole}
+use Rattle.error.specs.Numbers.{completed}
 use Rattle.ieee.specs.Bounds.{Upto}
 use Rattle.slices.specs.declared.First.the-variants.{Nowhere}
 use Rattle.slices.specs.Limit.{firstOutside}
-use Rattle.lloyd_search.specs.Answers.{codebookShaped, samplesShaped}
 use Rattle.lloyd_search.specs.Distance.{rowOf}
-use Rattle.lloyd_search.proofs.AnswersLaw.{passed-check, passed-bounded}
 use Rattle.lloyd_search.proofs.FiniteLaw.{Bounded}
 use Rattle.lloyd_search.proofs.LimitLaw.{all-within}
 use Rattle.lloyd_search.proofs.Parts.{row-place}
 use Rattle.lloyd_cells.specs.Repair.{Repaired}
-use Rattle.lloyd_update.specs.Alone.{Call, updateLimit, valueChecks, updateChecks, termsOf, updateOf}
+use Rattle.lloyd_update.specs.Alone.{Call, updateLimit, updateChecks, termsOf, updateOf}
 use Rattle.lloyd_update.proofs.CheckLaw.{checks-passed}
 use Rattle.finite.specs.Finite.{FiniteUpdate}
 use Rattle.finite.proofs.StepLaw.{step-finite, updated-kept}
@@ -30,27 +27,11 @@ module _ (c : Call) (pass : updateChecks c ≡ completed tt) where
   abbrev S : ℕ
   S = length (c .samples) / c .dim
 
-  -- no value is outside
-  values : (firstOutside updateLimit (c .codebook) ≡ Nowhere) × (firstOutside updateLimit (c .samples) ≡ Nowhere)
-  unfolding updateChecks valueChecks
-  values =
-      let n = c .size in
-      let k = c .dim in
-      let o = passed-check (not (codebookShaped n k (length (c .codebook)))) 7 (whole 1 ∷ []) _ tt pass in
-      let p = passed-check (not (samplesShaped k (length (c .samples)))) 7 (whole 2 ∷ []) _ tt (o .1) in
-      let q = passed-check (not (eqb (c .floatWork) (2 * (n * k) + 2 * n))) 7 (whole 7 ∷ []) _ tt (p .1) in
-      let r = passed-check (not (eqb (c .integerWork) n)) 7 (whole 8 ∷ []) _ tt (q .1) in
-      let s = passed-check (not (leb (c .slots) 1048576)) 7 (whole 9 ∷ []) _ tt (r .1) in
-      let t = passed-check (not (eqb (length (c .assignments)) (length (c .samples) / k))) 7 (whole 10 ∷ []) _ tt (s .1) in
-      let u = passed-bounded 1 (firstOutside updateLimit (c .codebook)) _ tt (t .1) in
-      let v = passed-bounded 2 (firstOutside updateLimit (c .samples)) _ tt (u .1) in
-      (u .0, v .0)
-
   samples-upto : (s : ℕ) → s < S → Bounded 48 (c .dim) (rowOf (c .dim) (c .samples) s)
-  samples-upto = rows-upto S (c .dim) (c .samples) (values .1) (checks-passed c pass .rows .whole-samples)
+  samples-upto = rows-upto S (c .dim) (c .samples) (checks-passed c pass .samples-within) (checks-passed c pass .rows .whole-samples)
 
   codebook-upto : (i : ℕ) → i < c .size → Bounded 48 (c .dim) (rowOf (c .dim) (c .codebook) i)
-  codebook-upto = rows-upto (c .size) (c .dim) (c .codebook) (values .0) (checks-passed c pass .book .length-is)
+  codebook-upto = rows-upto (c .size) (c .dim) (c .codebook) (checks-passed c pass .codebook-within) (checks-passed c pass .book .length-is)
 
   assigned-below : (s : ℕ) → s < S → getD (c .assignments) s 0 < c .size
   assigned-below s l = checks-passed c pass .cells s (rw (checks-passed c pass .each) l)

@@ -8,17 +8,16 @@ use lib.Dec.{T}
 use lib.Ieee.{Float, lt}
 use lib.Ieee.Scale.{finite}
 use Rattle.error.specs.Numbers.{completed}
-use Rattle.lloyd_search.proofs.AnswersLaw.{completed-same}
-use Rattle.lloyd_cells.proofs.TallyLaw.{then-completed}
+use Rattle.error.proofs.Outcomes.{completed-same, then-completed}
 use Rattle.lloyd_refine.specs.Refine.{Job, restartsOf, iterationsOf, Trained, roundsTo, errorOf, Best, trainedFrom, restart, afterRestart, restartOn, restartsTo}
-use Rattle.refinement.proofs.ChecksLaw.{Checked}
+use Rattle.lloyd_refine.proofs.CheckLaw.{Passed}
 use Rattle.refinement.proofs.StandLaw.{initial-within}
 use Rattle.refinement.proofs.TameLaw.{Tame, rounds-tame}
 use Rattle.refinement.proofs.WinsLaw.{error-finite}
 
-module _ (j : Job) (pass : Checked j) where
+module _ (j : Job) (pass : Passed j) where
   pub initial-tame : Tame j (j .initial)
-  initial-tame = (pass .initial, initial-within j pass)
+  initial-tame = (pass .initial-length, initial-within j pass)
 
   -- ---- the best of the start and the first r restarts
   abbrev pub TameBest : Best → Type 0

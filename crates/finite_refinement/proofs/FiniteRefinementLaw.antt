@@ -10,6 +10,7 @@ use lib.Ieee.{Float, nan, inf, fin, binary32, binary64, up, down, round, mul}
 use lib.Ieee.Fits.{down-pos}
 use lib.Ieee.Scale.{finite}
 use Rattle.error.specs.Numbers.{completed}
+use Rattle.error.proofs.Outcomes.{then-completed}
 use Rattle.ieee.specs.Bounds.{Upto}
 use Rattle.ieee.proofs.Bound.{mul-upto, round-upto, sumTo-upto, upto-finite}
 use Rattle.slices.proofs.TabulateLaw.{getD-tabulate}
@@ -18,11 +19,10 @@ use Rattle.rotation.specs.Apply.{rowSum}
 use Rattle.lloyd_search.specs.Distance.{rowOf}
 use Rattle.lloyd_search.proofs.FiniteLaw.{finite-nearest}
 use Rattle.lloyd_search.proofs.LimitLaw.{all-within}
-use Rattle.lloyd_cells.proofs.TallyLaw.{then-completed}
 use Rattle.lloyd_round.specs.Round.{cellOf}
 use Rattle.lloyd_refine.specs.Refine.{Job, sizeOf, dimOf, countOf, restartsOf, refineChecks, roundTerms, Trained, matrixOf, initialWord, refineOf}
+use Rattle.lloyd_refine.proofs.CheckLaw.{Passed, checks-passed}
 use Rattle.finite.proofs.StepLaw.{step-finite}
-use Rattle.refinement.proofs.ChecksLaw.{Checked, checked}
 use Rattle.refinement.proofs.DonorLaw.{cell-below}
 use Rattle.refinement.proofs.StandLaw.{rows-bounded, samples-within, matrix-upto, word-upto}
 use Rattle.refinement.proofs.WinsLaw.{error-finite}
@@ -41,7 +41,7 @@ narrowed-finite b small (fin s m e) h =
     upto-finite (round binary32 s (m * up e) (down e)) (2 ^ b)
     (round-upto binary32 s (m * up e) (down e) (2 ^ b) (down-pos e) (record { q = 1; j = b; small = lit< tt; reach = below-largest; is = sym (one-mul (2 ^ b)) }) (le-trans (le-of-eq (sym (mul-one (m * up e)))) h))
 
-module _ (j : Job) (pass : Checked j) where
+module _ (j : Job) (pass : Passed j) where
   abbrev n : ℕ
   n = sizeOf j
 
@@ -49,10 +49,10 @@ module _ (j : Job) (pass : Checked j) where
   k = dimOf j
 
   some-words : 1 ≤ n
-  some-words = let l = pass .profile .shape .book-least in omega arith
+  some-words = let l = pass .valid .shape .book-least in omega arith
 
   few-block : k ≤ 256
-  few-block = pass .profile .shape .block-most
+  few-block = pass .valid .shape .block-most
 
   -- ---- a rotation: products of at most 2 ^ 40
   module _ (r w : ℕ) (later : r ≡ 0 → ⊥) (l : r < restartsOf j) (o : w < n) where
@@ -76,9 +76,9 @@ module _ (j : Job) (pass : Checked j) where
       let S = countOf j in
       let words = rows-bounded 48 n k (t .codebook) within size in
       record {
-        searches = λ s l. finite-nearest 48 (lit≤ tt) k few-block n some-words (rowOf k (t .codebook)) words (rowOf k (j .samples) s) (rows-bounded 48 S k (j .samples) (samples-within j pass) (pass .samples) s l);
-        update = step-finite (roundTerms j r i (length (t .events))) S (rowOf k (j .samples)) (cellOf k n S (j .samples) (t .codebook)) (rowOf k (t .codebook)) few-block (pass .profile .settings .samples-most) 20 (lit≤ tt)
-            (rows-bounded 20 S k (j .samples) (pass .samples-within) (pass .samples)) words (cell-below k n S (j .samples) (t .codebook) some-words);
+        searches = λ s l. finite-nearest 48 (lit≤ tt) k few-block n some-words (rowOf k (t .codebook)) words (rowOf k (j .samples) s) (rows-bounded 48 S k (j .samples) (samples-within j pass) (pass .samples-length) s l);
+        update = step-finite (roundTerms j r i (length (t .events))) S (rowOf k (j .samples)) (cellOf k n S (j .samples) (t .codebook)) (rowOf k (t .codebook)) few-block (pass .valid .settings .samples-most) 20 (lit≤ tt)
+            (rows-bounded 20 S k (j .samples) (pass .samples-within) (pass .samples-length)) words (cell-below k n S (j .samples) (t .codebook) some-words);
       }
 
   codebook-error : (codebook : List Float) → Tame j codebook → FiniteError j codebook
@@ -91,7 +91,7 @@ module _ (j : Job) (pass : Checked j) where
 
 pub refinement-finite : (j : Job) → refineChecks j ≡ completed tt → FiniteRefinement j
 refinement-finite j h =
-    let pass = checked j h in
+    let pass = checks-passed j h in
     let rates = rates-finite j h in
     record {
       paper-rate = rates .0;

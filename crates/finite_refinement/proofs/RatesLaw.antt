@@ -12,6 +12,7 @@ use lib.Ieee.Scale.{finite}
 use borrow.Author.Tests.{not-false}
 use Rattle.error.specs.Names.{paperRateField, rotationAlgorithmField, schemaField, wireRateField}
 use Rattle.error.specs.Numbers.{completed, whole, real}
+use Rattle.error.proofs.Outcomes.{passed as passed-check}
 use Rattle.error.proofs.Refusals.{also-first, also-next}
 use Rattle.ieee.proofs.Bound.{upto-finite}
 use Rattle.ieee.proofs.Value.{holds-true}
@@ -19,9 +20,8 @@ use Rattle.ieee.proofs.Whole.{whole-value, value-at-most}
 use Rattle.profile.specs.declared.FibQuantProfile.{FibQuantProfile}
 use Rattle.profile.specs.Tests.{profileSchema, rotationAlgorithm, abs, tolerance, rateAgrees}
 use Rattle.profile.specs.Valid.{named, shapeOf, sizesOf, formatsOf, widthOf, rateOf, perCoord, ratesOf, numbersOf, validity}
-use Rattle.lloyd_search.proofs.AnswersLaw.{passed-check}
 use Rattle.lloyd_refine.specs.Refine.{Job, dimOf, refineChecks}
-use Rattle.refinement.proofs.ChecksLaw.{checked}
+use Rattle.lloyd_refine.proofs.CheckLaw.{checks-passed}
 use Rattle.finite_refinement.specs.FiniteRefinement.{FiniteRate}
 
 -- what is at most a finite value in size is finite
@@ -75,7 +75,7 @@ module _ (j : Job) where
   rates-finite h =
       let p = j .profile in
       let k = dimOf j in
-      let pass = checked j h .profile in
+      let pass = checks-passed j h .valid in
       let passed = rates-passed p (j .schema) (j .algorithm) (j .log2) (also-first (validity p (j .schema) (j .algorithm) (j .log2)) _ h) in
       let paper = rateOf paperRateField (p .«paper_rate_bits_per_coord») (perCoord (j .log2) k) in
       let wire = rateOf wireRateField (p .«wire_bits_per_coord») (perCoord bits k) in (

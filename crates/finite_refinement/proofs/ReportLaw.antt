@@ -9,11 +9,11 @@ use lib.Ieee.Bits.{is-true}
 use lib.Ieee.Scale.{finite}
 use borrow.Author.Tests.{eq-eqb}
 use Rattle.error.specs.Numbers.{completed}
+use Rattle.error.proofs.Outcomes.{then-completed}
 use Rattle.profile.proofs.Bytes.{equal-same}
-use Rattle.lloyd_cells.proofs.TallyLaw.{then-completed}
 use Rattle.lloyd_refine.specs.Refine.{Job, restartsOf, refineChecks, errorOf, Best, refineOf, refinement}
 use Rattle.lloyd_refine.specs.Report.{reportSchema, reportTest}
-use Rattle.refinement.proofs.ChecksLaw.{checked}
+use Rattle.lloyd_refine.proofs.CheckLaw.{checks-passed}
 use Rattle.finite_refinement.specs.FiniteRefinement.{FiniteErrors, FiniteReport}
 use Rattle.finite_refinement.proofs.BestLaw.{best-tame}
 use Rattle.finite_refinement.proofs.FiniteRefinementLaw.{refinement-finite}
@@ -38,4 +38,4 @@ module _ (j : Job) (b : Best) where
   pub report-finite : refinement j ≡ completed b → FiniteReport j b
   report-finite h =
       let (u, checks, done) = then-completed (refineChecks j) (λ (u : Unit). refineOf j) b h in
-      report (errors-finite j checks .init) (best-tame j (checked j checks) (restartsOf j) b (le-refl (restartsOf j)) done .1)
+      report (errors-finite j checks .init) (best-tame j (checks-passed j checks) (restartsOf j) b (le-refl (restartsOf j)) done .1)

@@ -11,16 +11,17 @@ use lib.Dec.{ltb}
 use lib.ListN.{length, getD, take, drop, length-append}
 use lib.Ieee.{Float}
 use Rattle.error.specs.Numbers.{Value, Outcome, completed, refused, whole}
+use Rattle.error.proofs.Outcomes.{passed as cond-passed, refused-later as cond-refused, then-completed, then-refused}
 use Rattle.lloyd_search.specs.Distance.{rowOf}
 use Rattle.lloyd_events.specs.declared.LloydRepairEvent.{LloydRepairEvent}
 use Rattle.lloyd_cells.specs.Cells.{countTo, total}
 use Rattle.lloyd_cells.specs.Repair.{Cells, Repaired, repairTo}
 use Rattle.lloyd_cells.specs.Update.{means, farthestSample, failsClosed, emptyCells, updated}
 use Rattle.lloyd_cells.proofs.CellsLaw.{total-count}
-use Rattle.lloyd_cells.proofs.TallyLaw.{then-completed, then-refused, donor-found}
+use Rattle.lloyd_cells.proofs.TallyLaw.{donor-found}
 use Rattle.lloyd_update.specs.Alone.{Call, updateChecks, termsOf, updateOf, updateAlone, codebookAfter, slotsAfter}
 use Rattle.history.specs.History.{Request, callWith, after, answers, isCompleted, completions, accepted, sampleCount, assignedTally, tallyAfter, Sound, Balanced, Tallies, AcceptedCall, RefusedCall, Link, Chain, History}
-use Rattle.history.proofs.ChecksLaw.{cond-passed, cond-refused, one-for-each, all-cells, checks-not-15}
+use Rattle.history.proofs.ChecksLaw.{one-for-each, all-cells, checks-not-15}
 use Rattle.history.proofs.TalliesLaw.{counted, follows, balanced, events-fit}
 
 take-front : {A : Type 0} (xs ys : List A) → take (length xs) (xs ++ ys) ≡ xs

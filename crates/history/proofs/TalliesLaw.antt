@@ -13,6 +13,7 @@ use lib.ListN.{length, length-append}
 use lib.Ieee.{Float, le}
 use borrow.Author.Tests.{eq-eqb, ne-eqb, leb-false}
 use Rattle.error.specs.Numbers.{completed, refused, whole}
+use Rattle.error.proofs.Outcomes.{then-completed}
 use Rattle.slices.specs.declared.First.{First}
 use Rattle.slices.specs.declared.First.the-variants.{Nowhere, At}
 use Rattle.lloyd_events.specs.declared.LloydRepairEvent.{LloydRepairEvent}
@@ -20,7 +21,7 @@ use Rattle.lloyd_cells.specs.Cells.{total}
 use Rattle.lloyd_cells.specs.Repair.{Cells, Terms, Repaired, leastNorm, residualNorm, eventOf, donorTo, repairBy, turn, repairTo}
 use Rattle.lloyd_cells.proofs.CellsLaw.{total-ext}
 use Rattle.lloyd_cells.proofs.DonorLaw.{donor-plenty}
-use Rattle.lloyd_cells.proofs.TallyLaw.{then-completed, splitBy, turn-completed, tallied, tallied-some, total-share}
+use Rattle.lloyd_cells.proofs.TallyLaw.{splitBy, turn-completed, tallied, tallied-some, total-share}
 use Rattle.history.specs.History.{donated, splitTally, tallyAfter, Fair, Sound, donations, isFilled, Balanced}
 
 -- ---- one repair more

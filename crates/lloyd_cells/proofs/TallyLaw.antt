@@ -12,23 +12,14 @@ use lib.Dec.{eqb, leb}
 use lib.ListN.{length, length-append}
 use lib.Ieee.{Float, le}
 use borrow.Author.Tests.{eqb-true, eqb-false, eq-eqb, ne-eqb}
-use Rattle.error.specs.Numbers.{Value, Outcome, completed, refused, andThen, whole}
+use Rattle.error.specs.Numbers.{Value, completed, refused, whole}
+use Rattle.error.proofs.Outcomes.{then-completed, then-refused}
 use Rattle.slices.specs.declared.First.{First}
 use Rattle.slices.specs.declared.First.the-variants.{Nowhere, At}
 use Rattle.lloyd_cells.specs.Cells.{countTo, total}
 use Rattle.lloyd_cells.specs.Repair.{Cells, Terms, Repaired, donorTo, leastNorm, residualNorm, split, eventOf, repairBy, turn, repairTo, Tallied}
 use Rattle.lloyd_cells.proofs.CellsLaw.{countTo-in, countTo-out, countTo-upto, total-change}
 use Rattle.lloyd_cells.proofs.DonorLaw.{donor-plenty, donor-none}
-
--- ---- one step after another
-module _ {A B : Type 0} where
-  pub then-completed : (o : Outcome A) (f : A → Outcome B) (r : B) → andThen o f ≡ completed r → (x : A) × (o ≡ completed x) × (f x ≡ completed r)
-  then-completed (completed x) f r h = (x, refl, h)
-  then-completed (refused m vs) f r h = let z : _≡_ {A = ℕ} 0 1 = cc in absurd (omega arith)
-
-  pub then-refused : (o : Outcome A) (f : A → Outcome B) (m : ℕ) (vs : List Value) → andThen o f ≡ refused m vs → (o ≡ refused m vs) ⊎ ((x : A) × (o ≡ completed x) × (f x ≡ refused m vs))
-  then-refused (completed x) f m vs h = inr (x, refl, h)
-  then-refused (refused i us) f m vs h = let p : i ≡ m = cc in let q : us ≡ vs = cc in inl (rw (p, q))
 
 -- ---- one turn
 module _ (t : Terms) (far : ℕ → ℕ → Float) (e : ℕ) (r : Repaired) where

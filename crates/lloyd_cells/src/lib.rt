@@ -9,7 +9,7 @@ ghost use lib.Ieee.{Float, nan, binary64, add, sub, mul, div, lt, ofInt};
 ghost use Rattle.slices.specs.Lists.{patched};
 ghost use Rattle.lloyd_search.specs.Distance.{vectorOf};
 ghost use Rattle.lloyd_cells.specs.Repair.{donorTo, shift, residualNorm};
-ghost use Rattle.lloyd_cells.specs.Work.{Fit, gatherWork, meansTo, splitWork, splitCounts};
+ghost use Rattle.lloyd_cells.specs.Work.{placesAt, Fit, gatherWork, meansTo, splitWork, splitCounts};
 use slices::First;
 
 // Where the parts of an update begin in the float work.
@@ -17,6 +17,20 @@ pub struct Places {
     pub words: usize,
     pub distortions: usize,
     pub farthest: usize,
+}
+
+impl Places {
+    // The n distortions stand before the n farthest distances.
+    pub fn at(words: usize, distortions: usize, n: usize) -> Places
+        requires { ⌜ distortions + n < 0x1_0000_0000_0000 ⌝ }
+        ensures { λ r. ⌜ r ≡ placesAt words distortions n ⌝ }
+    {
+        Places {
+            words,
+            distortions,
+            farthest: distortions + n,
+        }
+    }
 }
 
 // Below every distortion. The pattern of a constant, since no arithmetic result of a training job is infinite.

@@ -9,6 +9,7 @@ use lib.Ieee.{Float}
 use borrow.Author.Tests.{not-false, eqb-true, leb-true}
 use Rattle.error.specs.declared.Refusal.{Refusal}
 use Rattle.error.specs.Numbers.{Outcome, completed, whole, also, refusal}
+use Rattle.error.proofs.Outcomes.{passed}
 use Rattle.error.proofs.Refusals.{also-first, also-next, also-refused, also-then}
 use Rattle.slices.specs.declared.First.{First}
 use Rattle.slices.specs.declared.First.the-variants.{Nowhere, At}
@@ -16,7 +17,7 @@ use Rattle.slices.specs.Limit.{firstOutside, bounded}
 use Rattle.profile.specs.Facts.{Valid}
 use Rattle.profile.specs.Valid.{validity}
 use Rattle.profile.proofs.Facts as profile-facts
-use Rattle.lloyd_search.proofs.AnswersLaw.{passed-check}
+use Rattle.lloyd_search.proofs.AnswersLaw.{passed-bounded}
 use Rattle.lloyd_refine.specs.Refine.{Job, sizeOf, dimOf, countOf, restartsOf, refineLimit, lengthChecks, valueChecks, refineChecks}
 
 pub record Passed (j : Job) : Type 0 where
@@ -28,21 +29,28 @@ pub record Passed (j : Job) : Type 0 where
   pub floats : j .floatWork ≡ 4 * (sizeOf j * dimOf j) + 2 * sizeOf j
   pub integers : j .integerWork ≡ sizeOf j + countOf j
   pub slots-upto : j .slots ≤ 1048576
+  pub initial-within : firstOutside refineLimit (j .initial) ≡ Nowhere
+  pub samples-within : firstOutside refineLimit (j .samples) ≡ Nowhere
+  pub matrices-within : firstOutside refineLimit (j .matrices) ≡ Nowhere
 
 pub checks-passed : (j : Job) → refineChecks j ≡ completed tt → Passed j
-unfolding refineChecks lengthChecks
+unfolding refineChecks lengthChecks valueChecks
 checks-passed j e =
     let n = sizeOf j in
     let k = dimOf j in
     let v = also-first (validity (j .profile) (j .schema) (j .algorithm) (j .log2)) _ e in
-    let l = also-first (lengthChecks j) _ (also-next (validity (j .profile) (j .schema) (j .algorithm) (j .log2)) _ e) in
-    let o = passed-check (not (eqb (length (j .initial)) (n * k))) 7 (whole 1 ∷ []) _ tt l in
-    let p = passed-check (not (eqb (length (j .samples)) (countOf j * k))) 7 (whole 2 ∷ []) _ tt (o .1) in
-    let q = passed-check (not (eqb (length (j .matrices)) ((restartsOf j - 1) * (k * k)))) 7 (whole 3 ∷ []) _ tt (p .1) in
-    let r = passed-check (not (eqb (j .codewords) (n * k))) 7 (whole 4 ∷ []) _ tt (q .1) in
-    let s = passed-check (not (eqb (j .floatWork) (4 * (n * k) + 2 * n))) 7 (whole 7 ∷ []) _ tt (r .1) in
-    let t = passed-check (not (eqb (j .integerWork) (n + countOf j))) 7 (whole 8 ∷ []) _ tt (s .1) in
-    let u = passed-check (not (leb (j .slots) 1048576)) 7 (whole 9 ∷ []) _ tt (t .1) in
+    let rest = also-next (validity (j .profile) (j .schema) (j .algorithm) (j .log2)) _ e in
+    let l = also-first (lengthChecks j) (valueChecks j) rest in
+    let o = passed (not (eqb (length (j .initial)) (n * k))) 7 (whole 1 ∷ []) _ tt l in
+    let p = passed (not (eqb (length (j .samples)) (countOf j * k))) 7 (whole 2 ∷ []) _ tt (o .1) in
+    let q = passed (not (eqb (length (j .matrices)) ((restartsOf j - 1) * (k * k)))) 7 (whole 3 ∷ []) _ tt (p .1) in
+    let r = passed (not (eqb (j .codewords) (n * k))) 7 (whole 4 ∷ []) _ tt (q .1) in
+    let s = passed (not (eqb (j .floatWork) (4 * (n * k) + 2 * n))) 7 (whole 7 ∷ []) _ tt (r .1) in
+    let t = passed (not (eqb (j .integerWork) (n + countOf j))) 7 (whole 8 ∷ []) _ tt (s .1) in
+    let u = passed (not (leb (j .slots) 1048576)) 7 (whole 9 ∷ []) _ tt (t .1) in
+    let w = passed-bounded 1 (firstOutside refineLimit (j .initial)) _ tt (also-next (lengthChecks j) (valueChecks j) rest) in
+    let x = passed-bounded 2 (firstOutside refineLimit (j .samples)) _ tt (w .1) in
+    let y = passed-bounded 3 (firstOutside refineLimit (j .matrices)) _ tt (x .1) in
     record {
       valid = profile-facts.valid (j .profile) (j .schema) (j .algorithm) (j .log2) v;
       initial-length = eqb-true (length (j .initial)) (n * k) (not-false _ (o .0));
@@ -52,9 +60,16 @@ checks-passed j e =
       floats = eqb-true (j .floatWork) (4 * (n * k) + 2 * n) (not-false _ (s .0));
       integers = eqb-true (j .integerWork) (n + countOf j) (not-false _ (t .0));
       slots-upto = leb-true (j .slots) 1048576 (not-false _ (u .0));
+      initial-within = w .0;
+      samples-within = x .0;
+      matrices-within = y .0;
     }
 
 -- ---- the checks, one after another
+-- the values of one slice
+abbrev pub valuesOf : ℕ → List Float → Outcome Unit
+valuesOf slice xs = bounded slice (firstOutside refineLimit xs) (completed tt)
+
 module _ (j : Job) where
   abbrev profileCheck : Outcome Unit
   profileCheck = validity (j .profile) (j .schema) (j .algorithm) (j .log2)
@@ -67,13 +82,32 @@ module _ (j : Job) where
   also-bounded slice Nowhere rest = refl
   also-bounded slice (At place) rest = refl
 
-  abbrev valuesOf : ℕ → List Float → Outcome Unit
-  valuesOf slice xs = bounded slice (firstOutside refineLimit xs) (completed tt)
+  -- a profile that is valid leaves the lengths, and then the values slice by slice
+  module _ (valid : profileCheck ≡ completed tt) where
+    lengths-left : also (lengthChecks j) (also (valuesOf 1 (j .initial)) (also (valuesOf 2 (j .samples)) (valuesOf 3 (j .matrices)))) ≡ refineChecks j
+    unfolding refineChecks valueChecks
+    lengths-left =
+        let f = firstOutside refineLimit (j .initial) in
+        let g = firstOutside refineLimit (j .samples) in
+        ap (also (lengthChecks j)) (also-bounded 1 f _ ∙ ap (bounded 1 f) (also-bounded 2 g _))
+        ∙ sym (also-then profileCheck _ valid)
 
-  pub all-checks : profileCheck ≡ completed tt → also (lengthChecks j) (also (valuesOf 1 (j .initial)) (also (valuesOf 2 (j .samples)) (valuesOf 3 (j .matrices)))) ≡ refineChecks j
-  unfolding refineChecks valueChecks
-  all-checks h =
-      let f = firstOutside refineLimit (j .initial) in
-      let g = firstOutside refineLimit (j .samples) in
-      ap (also (lengthChecks j)) (also-bounded 1 f _ ∙ ap (bounded 1 f) (also-bounded 2 g _))
-      ∙ sym (also-then profileCheck _ h)
+    pub wrong-length : (x : Refusal) → lengthChecks j ≡ refusal x → refineChecks j ≡ refusal x
+    wrong-length x h = sym lengths-left ∙ also-refused (lengthChecks j) _ x h
+
+    module _ (sized : lengthChecks j ≡ completed tt) where
+      values-left : also (valuesOf 1 (j .initial)) (also (valuesOf 2 (j .samples)) (valuesOf 3 (j .matrices))) ≡ refineChecks j
+      values-left = sym (also-then (lengthChecks j) _ sized) ∙ lengths-left
+
+      pub wrong-initial : (x : Refusal) → valuesOf 1 (j .initial) ≡ refusal x → refineChecks j ≡ refusal x
+      wrong-initial x h = sym values-left ∙ also-refused (valuesOf 1 (j .initial)) _ x h
+
+      module _ (first : valuesOf 1 (j .initial) ≡ completed tt) where
+        samples-left : also (valuesOf 2 (j .samples)) (valuesOf 3 (j .matrices)) ≡ refineChecks j
+        samples-left = sym (also-then (valuesOf 1 (j .initial)) _ first) ∙ values-left
+
+        pub wrong-samples : (x : Refusal) → valuesOf 2 (j .samples) ≡ refusal x → refineChecks j ≡ refusal x
+        wrong-samples x h = sym samples-left ∙ also-refused (valuesOf 2 (j .samples)) _ x h
+
+        pub matrices-left : valuesOf 2 (j .samples) ≡ completed tt → valuesOf 3 (j .matrices) ≡ refineChecks j
+        matrices-left second = sym (also-then (valuesOf 2 (j .samples)) _ second) ∙ samples-left

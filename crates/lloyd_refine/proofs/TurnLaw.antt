@@ -121,10 +121,10 @@ module _ {j : Job} {b : Best} {t : Trained} {u : Repaired} {s : RefineState} {wo
       winner = h .winner;
     }
 
-    pub turned : (o : Turn) (p : Pause) → Paused (sizeOf j) s o p
+    pub turned : (o : Turn) (p : Pause) → Paused (j .profile) s o p
         → Turned (placesOf (sizeOf j) (dimOf j)) (numbersOf (sizeOf j)) (roundTerms j (s .restart) (s .iteration) (length (t .events))) (j .samples) (roundFar j (t .codebook)) (roundMeans j (t .codebook)) u after left o
         → Stands j (t .events ++ u .events) after left p
-    turned (turns.Repair e next) p (over, going, begun, event, state) o =
+    turned (turns.Repair e next) p (over, going, begun, event, state, answer) o =
         let k = length-append (u .events) (e ∷ []) in
         let n = ap length (o .event) in
         let made : s .made + 1 ≡ length (o .after .events) = omega (arith, h .made) in
@@ -144,7 +144,7 @@ module _ {j : Job} {b : Best} {t : Trained} {u : Repaired} {s : RefineState} {wo
             λ y. absurd (true≢false (sym going ∙ y)),
           ),
         )
-    turned turns.Done p (over, state) o = (
+    turned turns.Done p (over, going, begun, event, state, answer) o = (
       λ z. record {
         b = b;
         t = t;
@@ -155,7 +155,7 @@ module _ {j : Job} {b : Best} {t : Trained} {u : Repaired} {s : RefineState} {wo
       },
       λ z. absurd (true≢false (sym over ∙ z)),
     )
-    turned (turns.Refused x) p (over, going, begun, answer, state) o = (
+    turned (turns.Refused x) p (over, going, begun, event, state, answer) o = (
       λ z. absurd (true≢false (sym z ∙ over)),
       λ z. not-refined j (t .events ++ u .events) after left (p .step) x going begun answer (h .checked)
           (refused-by j x (s .restart) (s .iteration) b t (h .checked) (h .restart-below) (h .round-below) (h .bests) (h .rounds) (h .repairs ∙ o)),

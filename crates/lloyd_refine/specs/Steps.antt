@@ -6,6 +6,7 @@ use mathlib.Core.List.{List, _++_}
 use lib.Ieee.{Float}
 use Rattle.profile.specs.declared.FibQuantProfile.{FibQuantProfile}
 use Rattle.lloyd_events.specs.declared.LloydRepairEvent.{LloydRepairEvent}
+use Rattle.lloyd_events.specs.Events.{zeroEvent}
 use Rattle.lloyd_cells.specs.Repair.{Repaired}
 use Rattle.lloyd_repair.specs.declared.Turn.{Turn}
 use Rattle.lloyd_repair.specs.declared.Turn.the-variants as turns
@@ -40,11 +41,17 @@ reportIn p s = record {
 abbrev pub atCell : ℕ → ℕ → RefineState → RefineState
 atCell next made s = record { restart = s .restart; iteration = s .iteration; next = next; before = s .before; made = made; «init_mse» = s .«init_mse»; «best_mse» = s .«best_mse»; «best_restart» = s .«best_restart» }
 
--- what a turn of the repairs of n cells makes of a state
-abbrev pub Paused : ℕ → RefineState → Turn → Pause → Type 0
-Paused n s (turns.Repair e next) p = (p .over ≡ false) × (p .step .going ≡ true) × (p .step .begun ≡ true) × (p .step .event ≡ e) × (p .step .state ≡ atCell next (s .made + 1) s)
-Paused n s turns.Done p = (p .over ≡ true) × (p .step .state ≡ atCell n (s .made) s)
-Paused n s (turns.Refused x) p = (p .over ≡ false) × (p .step .going ≡ false) × (p .step .begun ≡ true) × (p .step .answer ≡ Refused x) × (p .step .state ≡ s)
+-- what a turn of the repairs makes of a state, member by member
+abbrev pub Paused : FibQuantProfile → RefineState → Turn → Pause → Type 0
+Paused f s (turns.Repair e next) p =
+    (p .over ≡ false) × (p .step .going ≡ true) × (p .step .begun ≡ true) × (p .step .event ≡ e)
+    × (p .step .state ≡ atCell next (s .made + 1) s) × (p .step .answer ≡ Report (reportIn f s))
+Paused f s turns.Done p =
+    (p .over ≡ true) × (p .step .going ≡ false) × (p .step .begun ≡ true) × (p .step .event ≡ zeroEvent)
+    × (p .step .state ≡ atCell (f .«codebook_size») (s .made) s) × (p .step .answer ≡ Report (reportIn f s))
+Paused f s (turns.Refused x) p =
+    (p .over ≡ false) × (p .step .going ≡ false) × (p .step .begun ≡ true) × (p .step .event ≡ zeroEvent)
+    × (p .step .state ≡ s) × (p .step .answer ≡ Refused x)
 
 -- this restart's end, of error e, is the best so far
 abbrev pub withBest : Float → RefineState → RefineState

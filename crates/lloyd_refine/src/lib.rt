@@ -17,7 +17,6 @@ ghost use Rattle.lloyd_search.specs.Nearest.{meanError};
 ghost use Rattle.lloyd_events.specs.declared.LloydRepairEvent.{LloydRepairEvent};
 ghost use Rattle.lloyd_events.specs.Events.{zeroEvent};
 ghost use Rattle.lloyd_cells.specs.Repair.{Repaired};
-ghost use Rattle.lloyd_round.specs.Round.{placesOf};
 ghost use Rattle.lloyd_refine.specs.Refine.{Job, Best, Trained, refineLimit, lengthChecks, refineChecks};
 ghost use Rattle.lloyd_refine.specs.Report.{sameSettings, reportTest};
 ghost use Rattle.lloyd_refine.specs.Standing.{jobOf, InRound, Matches};
@@ -25,7 +24,6 @@ ghost use Rattle.lloyd_refine.specs.Steps.{isReport, reportIn, withBest,
 use error::Checked;
 use error::Refusal;
 use error::names;
-use lloyd_cells::Places;
 use lloyd_events::LloydRepairEvent;
 use lloyd_repair::Numbers;
 use lloyd_repair::RepairTerms;
@@ -67,6 +65,7 @@ pub struct RefineState {
 }
 
 // Where a refinement stands: a repair was made and its event is to be written, or it has stopped with its answer.
+// Nothing reads its answer while it goes on, nor its event and state once it has stopped with its answer: there they are free.
 pub struct RefineStep {
     pub going: bool,
     // Updating has begun, so that work and event slots are zeroed if it is refused.
@@ -84,9 +83,6 @@ pub struct Pause {
 
 // The largest magnitude that a refinement takes: 2 ^ 20.
 const REFINE_LIMIT: f64 = 1048576.0;
-
-// The most event slots that can be lent.
-const MAX_EVENT_SLOTS: usize = 1_048_576;
 
 // The lengths of the slices, for a profile that is valid. The strings beside it do not matter to them.
 fn check_lengths(
@@ -124,7 +120,7 @@ fn check_lengths(
     if integers != n + count {
         return Checked::Refused(Refusal::SliceLength(names::INTEGER_WORK_SLICE));
     }
-    if MAX_EVENT_SLOTS < slots {
+    if lloyd_events::MAX_EVENT_SLOTS < slots {
         return Checked::Refused(Refusal::SliceLength(names::EVENT_SLICE));
     }
     Checked::Accepted
@@ -173,25 +169,18 @@ pub fn check_refine(
         integers,
         slots,
     );
-    let first = check_values(names::INITIAL_SLICE, initial);
-    let second = check_values(names::SAMPLES_SLICE, samples);
-    let third = check_values(names::MATRIX_SLICE, matrices);
-    profile::checks::also(
-        sized,
-        profile::checks::also(first, profile::checks::also(second, third)),
-    )
-}
-
-// Where the parts of an update begin in the float work of a refinement.
-fn places(n: usize, k: usize) -> Places
-    requires { ⌜ 3 * (n * k) + n < 0x1_0000_0000_0000 ⌝ }
-    ensures { λ r. ⌜ r ≡ placesOf n k ⌝ }
-{
-    Places {
-        words: 2 * (n * k),
-        distortions: 3 * (n * k),
-        farthest: 3 * (n * k) + n,
+    if let Checked::Refused(refusal) = sized {
+        return Checked::Refused(refusal);
     }
+    let first = check_values(names::INITIAL_SLICE, initial);
+    if let Checked::Refused(refusal) = first {
+        return Checked::Refused(refusal);
+    }
+    let second = check_values(names::SAMPLES_SLICE, samples);
+    if let Checked::Refused(refusal) = second {
+        return Checked::Refused(refusal);
+    }
+    check_values(names::MATRIX_SLICE, matrices)
 }
 
 // The report of what has been found so far.
@@ -228,7 +217,7 @@ pub fn stop(begun: bool, s: RefineState, answer: Refinement) -> RefineStep
 // Where a turn of the repairs leaves a refinement.
 fn paused(profile: FibQuantProfile, s: RefineState, turn: Turn) -> Pause
     requires { ⌜ (s .before ≤ 1048576) × (s .made ≤ 1048576) ⌝ }
-    ensures { λ p. ⌜ Paused (profile .«codebook_size») s turn p ⌝ }
+    ensures { λ p. ⌜ Paused profile s turn p ⌝ }
 {
     let mut state = s;
     match turn {
@@ -288,7 +277,7 @@ pub fn repair_on(
         work,
         ints,
         samples,
-        places(n, k),
+        lloyd_round::places(n, k),
         numbers,
         terms,
         s.next,

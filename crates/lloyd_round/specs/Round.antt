@@ -11,6 +11,7 @@ use Rattle.lloyd_search.specs.Nearest.{nearest}
 use Rattle.lloyd_cells.specs.declared.Places.{Places}
 use Rattle.lloyd_cells.specs.Repair.{Cells, Terms}
 use Rattle.lloyd_cells.specs.Update.{means, farthestSample}
+use Rattle.lloyd_cells.specs.Work.{placesAt}
 use Rattle.lloyd_repair.specs.declared.Numbers.{Numbers}
 use Rattle.lloyd_repair.specs.Running.{Running}
 
@@ -33,7 +34,7 @@ module _ (k n S : ℕ) (samples codebook : List Float) where
 -- ---- the work of a refinement
 -- Floats: the codebook of the round, the best codebook so far, the words of the update, distortions, farthest distances. What is left stays unused.
 abbrev pub placesOf : ℕ → ℕ → Places
-placesOf n k = record { words = 2 * (n * k); distortions = 3 * (n * k); farthest = 3 * (n * k) + n }
+placesOf n k = placesAt (2 * (n * k)) (3 * (n * k)) n
 
 -- Integers: the counts, then the numbers of the farthest samples. What is left stays unused.
 abbrev pub numbersOf : ℕ → Numbers

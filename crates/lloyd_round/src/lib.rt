@@ -1,5 +1,5 @@
 // A round of refinement in lent work: every sample goes to its nearest codeword and is added up there, and the cells get their means.
-// The public function is public only for the crate above, which lends work of the right lengths.
+// The public functions are public only for the crates above, which lend work of the right lengths.
 ghost use mathlib.Core.Path.{_≡_};
 ghost use mathlib.Core.Bool.{true};
 ghost use mathlib.Core.List.{List, _++_};
@@ -18,15 +18,11 @@ use lloyd_cells::Places;
 use lloyd_search::Found;
 
 // Where the parts of a round's update begin in the float work.
-fn places(n: usize, k: usize) -> Places
+pub fn places(n: usize, k: usize) -> Places
     requires { ⌜ 3 * (n * k) + n < 0x1_0000_0000_0000 ⌝ }
     ensures { λ r. ⌜ r ≡ placesOf n k ⌝ }
 {
-    Places {
-        words: 2 * (n * k),
-        distortions: 3 * (n * k),
-        farthest: 3 * (n * k) + n,
-    }
+    Places::at(2 * (n * k), 3 * (n * k), n)
 }
 
 // The values from `at` on become x.

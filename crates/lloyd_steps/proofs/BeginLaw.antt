@@ -18,20 +18,16 @@ use Rattle.lloyd_round.specs.Round.{Holding}
 use Rattle.lloyd_search.specs.Distance.{rowOf}
 use Rattle.lloyd_search.specs.Nearest.{meanError}
 use Rattle.lloyd_refine.specs.declared.Refinement.the-variants.{Refused}
-use Rattle.lloyd_refine.specs.declared.RefineState.{RefineState}
 use Rattle.lloyd_refine.specs.declared.RefineStep.{RefineStep}
 use Rattle.lloyd_refine.specs.Refine.{Job, sizeOf, dimOf, refineChecks, startOf, trainedFrom, errorOf, Best, startBest, restartsTo, refineOf, refinement}
 use Rattle.lloyd_refine.specs.Report.{refinementOf, reportOf}
 use Rattle.lloyd_refine.specs.Standing.{Progress}
-use Rattle.lloyd_steps.specs.Rounds.{AtRound}
+use Rattle.lloyd_steps.specs.Rounds.{firstState, AtRound}
 use Rattle.lloyd_refine.proofs.CheckLaw.{checks-passed}
 use Rattle.lloyd_refine.proofs.TurnLaw.{report-refused}
 use Rattle.lloyd_steps.proofs.RestartLaw.{measured, Kept, starts}
 
 -- ---- the first restart
-abbrev pub firstState : Float → RefineState
-firstState e = record { restart = 0; iteration = 0; next = 0; before = 0; made = 0; «init_mse» = e; «best_mse» = e; «best_restart» = 0 }
-
 abbrev valuesOf : Job → ℕ → Float
 valuesOf j i = getD (j .initial) i nan
 

@@ -18,6 +18,10 @@ use Rattle.lloyd_refine.specs.Steps.{Over, Stands}
 abbrev pub roundsLeft : FibQuantProfile → RefineState → ℕ
 roundsLeft p s = (p .«lloyd_restarts» - s .restart) * p .«lloyd_iterations» - s .iteration
 
+-- restart 0 and its round 0, where the initial codebook's error is e
+abbrev pub firstState : Float → RefineState
+firstState e = record { restart = 0; iteration = 0; next = 0; before = 0; made = 0; «init_mse» = e; «best_mse» = e; «best_restart» = 0 }
+
 -- Between two rounds: earlier restarts came to b, the rounds of this one to t.
 pub record AtRound (j : Job) (b : Best) (t : Trained) (s : RefineState) (work : List Float) (ints : List ℕ) : Type 0 where
   pub checked : refineChecks j ≡ completed tt

@@ -6,11 +6,13 @@ ghost use mathlib.Core.List.{List, [], _∷_, _++_};
 ghost use Prim.Native.Nat.{_+_, _*_, _<_};
 ghost use lib.ListN.{length};
 ghost use Rattle.error.specs.Numbers.{completed, checked};
+ghost use Rattle.ieee.specs.Sum.{plusZero};
 ghost use Rattle.lloyd_events.specs.declared.LloydRepairEvent.{LloydRepairEvent};
+ghost use Rattle.lloyd_events.specs.Events.{zeroEvent};
 ghost use Rattle.lloyd_refine.specs.Refine.{Job, Best, Trained, refineChecks};
 ghost use Rattle.lloyd_refine.specs.Standing.{jobOf, Going, Progress, Matches, Ready};
 ghost use Rattle.lloyd_refine.specs.Steps.{Over, Stands};
-ghost use Rattle.lloyd_steps.specs.Rounds.{roundsLeft, AtRound, ReadyRound, ReadyOver, ReadyEnd, ReadyPause, ReadyJob};
+ghost use Rattle.lloyd_steps.specs.Rounds.{roundsLeft, firstState, AtRound, ReadyRound, ReadyOver, ReadyEnd, ReadyPause, ReadyJob};
 use error::Checked;
 use error::Refusal;
 use lloyd_refine::Pause;
@@ -212,7 +214,7 @@ pub fn begin_refine(
 
 // Refused by a check.
 fn not_begun(r: Refusal) -> RefineStep
-    ensures { λ s. ⌜ (s .going ≡ false) × (s .begun ≡ false) × (s .answer ≡ Refinement.Refused r) ⌝ }
+    ensures { λ s. ⌜ (s .going ≡ false) × (s .begun ≡ false) × (s .answer ≡ Refinement.Refused r) × (s .event ≡ zeroEvent) × (s .state ≡ firstState plusZero) ⌝ }
 {
     let s = RefineState {
         restart: 0,

@@ -13,7 +13,7 @@ use Rattle.lloyd_cells.specs.declared.Places.{Places}
 use Rattle.lloyd_cells.specs.Cells.{farthest}
 use Rattle.lloyd_cells.specs.Repair.{Cells, Terms, Repaired, repairTo}
 use Rattle.lloyd_cells.specs.Update.{means, farthestSample, oldDistance}
-use Rattle.lloyd_cells.specs.Work.{Gathered}
+use Rattle.lloyd_cells.specs.Work.{placesAt, Gathered}
 use Rattle.lloyd_repair.specs.declared.Numbers.{Numbers}
 use Rattle.lloyd_repair.specs.Running.{Running}
 use Rattle.lloyd_update.specs.declared.Updated.{Updated}
@@ -29,7 +29,7 @@ updatedOf (Refused r) = refusal r
 
 -- Update alone lends 2 * n * k + 2 * n floats: the words, room for the numbers of the farthest samples, the distortions, the farthest distances.
 abbrev pub placesOf : ℕ → ℕ → Places
-placesOf n k = record { words = 0; distortions = 2 * (n * k); farthest = 2 * (n * k) + n }
+placesOf n k = placesAt 0 (2 * (n * k)) n
 
 abbrev pub numbersOf : ℕ → ℕ → Numbers
 numbersOf n k = record { start = n * k; «in_floats» = true }

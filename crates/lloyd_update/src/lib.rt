@@ -11,6 +11,7 @@ ghost use Rattle.error.specs.Numbers.{checked};
 ghost use Rattle.ieee.specs.Sum.{plusZero};
 ghost use Rattle.slices.specs.Lists.{patched};
 ghost use Rattle.lloyd_events.specs.declared.LloydRepairEvent.{LloydRepairEvent};
+ghost use Rattle.lloyd_events.specs.Events.{zeroEvent};
 ghost use Rattle.lloyd_cells.specs.Cells.{countTo};
 ghost use Rattle.lloyd_cells.specs.Repair.{Repaired};
 ghost use Rattle.lloyd_update.specs.Alone.{Call, updateChecks, valueChecks};
@@ -42,6 +43,7 @@ pub struct UpdateTerms {
 }
 
 // Where an update stands: a repair was made and its event is to be written, or it has stopped with its answer.
+// Nothing reads its answer while it goes on, nor its event and next cell once it has stopped: there they are free.
 pub struct Step {
     pub going: bool,
     // Updating has begun, so that work and event slots are zeroed if it is refused.
@@ -54,9 +56,6 @@ pub struct Step {
 
 // The largest magnitude that an update takes: 2 ^ 48.
 const UPDATE_LIMIT: f64 = 281474976710656.0;
-
-// The most event slots that can be lent.
-const MAX_EVENT_SLOTS: usize = 1_048_576;
 
 // The checks of an update, in their order.
 fn check_update(
@@ -84,7 +83,7 @@ fn check_update(
     if integers as u64 != n {
         return Checked::Refused(Refusal::SliceLength(names::INTEGER_WORK_SLICE));
     }
-    if MAX_EVENT_SLOTS < slots {
+    if lloyd_events::MAX_EVENT_SLOTS < slots {
         return Checked::Refused(Refusal::SliceLength(names::EVENT_SLICE));
     }
     if assignments.len() as u64 != samples.len() as u64 / k {
@@ -131,11 +130,7 @@ fn places(n: usize, k: usize) -> Places
     requires { ⌜ 2 * (n * k) + n < 0x1_0000_0000_0000 ⌝ }
     ensures { λ r. ⌜ r ≡ placesOf n k ⌝ }
 {
-    Places {
-        words: 0,
-        distortions: 2 * (n * k),
-        farthest: 2 * (n * k) + n,
-    }
+    Places::at(0, 2 * (n * k), n)
 }
 
 // Nothing is added up yet: zeros, and farthest distances below every distance.
@@ -204,7 +199,7 @@ pub fn count_empty(counts: &[u32]) -> usize
 
 // Stopped with an answer, before updating began or once it has.
 fn stop(begun: bool, answer: Updated) -> Step
-    ensures { λ s. ⌜ (s .going ≡ false) × (s .begun ≡ begun) × (s .answer ≡ answer) ⌝ }
+    ensures { λ s. ⌜ (s .going ≡ false) × (s .begun ≡ begun) × (s .answer ≡ answer) × (s .event ≡ zeroEvent) × (s .next ≡ 0) ⌝ }
 {
     Step {
         going: false,
@@ -231,7 +226,7 @@ pub fn next_repair(
     repair_on(samples, work, counts, slots, used, t, s.next)
 }
 
-// The repairs from a cell on, up to the next one that is made.
+// The repairs from a cell on, up to the next one that is made. While the update goes on, its answer is free.
 fn repair_on(
     samples: &[f64],
     work: &mut [f64],

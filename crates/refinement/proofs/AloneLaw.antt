@@ -11,6 +11,7 @@ use lib.ListN.{length, getD}
 use lib.Ieee.{Float, le}
 use borrow.Author.Tests.{le-leb, lt-leb, eq-eqb}
 use Rattle.error.specs.Numbers.{Outcome, completed, refused, andThen, whole}
+use Rattle.error.proofs.Outcomes.{passed, then-completed}
 use Rattle.slices.specs.declared.First.{First}
 use Rattle.slices.specs.declared.First.the-variants.{Nowhere, At}
 use Rattle.slices.specs.First.{firstWhere}
@@ -22,15 +23,14 @@ use Rattle.lloyd_search.specs.Distance.{rowOf}
 use Rattle.lloyd_search.specs.Answers.{codebookShaped, samplesShaped}
 use Rattle.lloyd_cells.specs.Repair.{Cells, Terms, Repaired, donorTo, leastNorm, residualNorm, repairBy, turn, repairTo}
 use Rattle.lloyd_cells.specs.Update.{means, farthestSample, failsClosed, emptyCells, updated}
-use Rattle.lloyd_cells.proofs.TallyLaw.{then-completed, splitBy}
+use Rattle.lloyd_cells.proofs.TallyLaw.{splitBy}
 use Rattle.lloyd_round.specs.Round.{nearestCells, cellOf}
 use Rattle.lloyd_update.specs.Alone.{Call, updateLimit, valueChecks, updateChecks, updateOf, updateAlone, codebookAfter}
 use Rattle.slices.specs.Lists.{wordsOf}
 use Rattle.lloyd_refine.specs.Refine.{Job, sizeOf, dimOf, countOf, roundTerms, roundOf, Trained}
+use Rattle.lloyd_refine.proofs.CheckLaw.{Passed}
 use Rattle.history.specs.History.{callWith}
-use Rattle.history.proofs.ChecksLaw.{cond-passed}
 use Rattle.refinement.specs.Refinement.{roundRequest}
-use Rattle.refinement.proofs.ChecksLaw.{Checked}
 use Rattle.refinement.proofs.DonorLaw.{cell-below}
 use Rattle.refinement.proofs.StandLaw.{samples-within}
 
@@ -72,7 +72,7 @@ updated-shown t m policy S x a old r h =
     let st = means (t .dim) S x a old in
     let far = farthestSample (t .dim) S x a old in
     let none = emptyCells (st .tally) (t .cells) in
-    let p = cond-passed (failsClosed policy && ltb 0 none) 14 (whole none ∷ []) (repairTo t far st (t .cells)) r h in
+    let p = passed (failsClosed policy && ltb 0 none) 14 (whole none ∷ []) (repairTo t far st (t .cells)) r h in
     rw (p .0) (repairs-shown t m far st (t .cells) r (p .1))
 
 -- ---- the checks
@@ -81,7 +81,7 @@ all-cells k n S samples some codebook =
     let cells = nearestCells k n S samples codebook in
     nowhere (λ s. leb n (getD cells s 0)) (length cells) (λ s m. lt-leb n (getD cells s 0) (cell-below k n S samples codebook some s (rw (length-tabulate S _) at m)))
 
-module _ (j : Job) (pass : Checked j) (r i : ℕ) (t : Trained) (size : length (t .codebook) ≡ sizeOf j * dimOf j) (tame : firstOutside updateLimit (t .codebook) ≡ Nowhere) where
+module _ (j : Job) (pass : Passed j) (r i : ℕ) (t : Trained) (size : length (t .codebook) ≡ sizeOf j * dimOf j) (tame : firstOutside updateLimit (t .codebook) ≡ Nowhere) where
   abbrev pub roundCall : Call
   roundCall = callWith (roundRequest j r i t) (t .codebook)
 
@@ -89,29 +89,29 @@ module _ (j : Job) (pass : Checked j) (r i : ℕ) (t : Trained) (size : length (
   cells = roundCall .assignments
 
   pub count-is : length (j .samples) / dimOf j ≡ countOf j
-  count-is = div-eq-of-eq-mul-left (pass .profile .shape .some-block) (pass .samples)
+  count-is = div-eq-of-eq-mul-left (pass .valid .shape .some-block) (pass .samples-length)
 
   codebook-shaped : codebookShaped (sizeOf j) (dimOf j) (length (t .codebook)) ≡ true
   codebook-shaped =
-      let s = pass .profile .shape in
+      let s = pass .valid .shape in
       let l = s .book-least in
       rw (le-leb 1 (dimOf j) (s .some-block), le-leb (dimOf j) 256 (s .block-most), le-leb 1 (sizeOf j) (omega arith), le-leb (sizeOf j) 1048576 (s .book-most), eq-eqb (length (t .codebook)) (sizeOf j * dimOf j) size)
 
   samples-shaped : samplesShaped (dimOf j) (length (j .samples)) ≡ true
   samples-shaped =
-      let whole-samples : length (j .samples) % dimOf j ≡ 0 = ap (λ (z : ℕ). z % dimOf j) (pass .samples) ∙ mul-mod-left (countOf j) (dimOf j) in
-      rw (eq-eqb (length (j .samples) % dimOf j) 0 whole-samples, count-is, le-leb (countOf j) 10000000 (pass .profile .settings .samples-most))
+      let whole-samples : length (j .samples) % dimOf j ≡ 0 = ap (λ (z : ℕ). z % dimOf j) (pass .samples-length) ∙ mul-mod-left (countOf j) (dimOf j) in
+      rw (eq-eqb (length (j .samples) % dimOf j) 0 whole-samples, count-is, le-leb (countOf j) 10000000 (pass .valid .settings .samples-most))
 
   values-pass : valueChecks (sizeOf j) (t .codebook) (j .samples) cells ≡ completed tt
   unfolding valueChecks
-  values-pass = let l = pass .profile .shape .book-least in rw (tame, samples-within j pass, all-cells (dimOf j) (sizeOf j) (countOf j) (j .samples) (omega arith))
+  values-pass = let l = pass .valid .shape .book-least in rw (tame, samples-within j pass, all-cells (dimOf j) (sizeOf j) (countOf j) (j .samples) (omega arith))
 
   pub checks-pass : updateChecks roundCall ≡ completed tt
   unfolding updateChecks
   checks-pass =
       let n = sizeOf j in
       let k = dimOf j in
-      let few = pass .slots in
+      let few = pass .slots-upto in
       let one-for-each : length cells ≡ length (j .samples) / k = length-tabulate (countOf j) _ ∙ sym count-is in
       rw (codebook-shaped, samples-shaped, eq-eqb (2 * (n * k) + 2 * n) (2 * (n * k) + 2 * n) refl, eq-eqb n n refl, le-leb (roundCall .slots) 1048576 (omega arith), eq-eqb (length cells) (length (j .samples) / k) one-for-each, values-pass)
 

@@ -1,4 +1,4 @@
--- What a refinement's checks leave once they have passed; and that none of them answers 15.
+-- No check of a refinement answers 15.
 -- Assumes nothing.
 use mathlib.Core.Path.{_≡_}
 use Prim.Native.Nat.{ℕ, _+_, _-_, _*_, _%_, _≤_}
@@ -10,9 +10,7 @@ use lib.Ieee.Fits.{eq→eqb}
 use lib.ListN.{length}
 use lib.IntN.{pos}
 use lib.Ieee.{Float, binary64, ofInt}
-use borrow.Author.Tests.{eqb-true, leb-true, not-false}
 use Rattle.error.specs.Numbers.{Value, Outcome, completed, refused, also, whole}
-use Rattle.error.proofs.Refusals.{also-first, also-next}
 use Rattle.slices.specs.declared.First.{First}
 use Rattle.slices.specs.declared.First.the-variants.{Nowhere, At}
 use Rattle.slices.specs.Limit.{firstOutside, bounded}
@@ -23,22 +21,9 @@ use Rattle.profile.specs.declared.DirectionMethod.{DirectionMethod}
 use Rattle.profile.specs.declared.FibQuantProfile.{FibQuantProfile}
 use Rattle.profile.specs.Tests.{profileSchema, rotationAlgorithm, sameBytes, isFp16, isCanonical, radiusFor, directionFor, sameRadius, sameDirection, indexWidth, rateAgrees}
 use Rattle.profile.specs.Valid.{named, shapeOf, sizesOf, formatsOf, widthOf, rateOf, ratesOf, methodsOf, settingsOf, numbersOf, perCoord, validity}
-use Rattle.profile.specs.Facts.{Valid}
-use Rattle.profile.proofs.Facts.{valid}
-use Rattle.lloyd_search.proofs.AnswersLaw.{passed-check, passed-bounded}
 use Rattle.lloyd_refine.specs.Refine.{Job, sizeOf, dimOf, countOf, restartsOf, refineLimit, lengthChecks, valueChecks, refineChecks}
 
--- ---- what has passed
-pub record Checked (j : Job) : Type 0 where
-  pub profile : Valid (j .profile)
-  pub initial : length (j .initial) ≡ sizeOf j * dimOf j
-  pub samples : length (j .samples) ≡ countOf j * dimOf j
-  pub matrices : length (j .matrices) ≡ (restartsOf j - 1) * (dimOf j * dimOf j)
-  pub slots : j .slots ≤ 1048576
-  pub initial-within : firstOutside refineLimit (j .initial) ≡ Nowhere
-  pub samples-within : firstOutside refineLimit (j .samples) ≡ Nowhere
-  pub matrices-within : firstOutside refineLimit (j .matrices) ≡ Nowhere
-
+-- ---- the tests of the lengths
 module _ (j : Job) where
   abbrev initialBad : Bool
   initialBad = not (eqb (length (j .initial)) (sizeOf j * dimOf j))
@@ -60,43 +45,6 @@ module _ (j : Job) where
 
   abbrev slotsBad : Bool
   slotsBad = not (leb (j .slots) 1048576)
-
-  lengths : lengthChecks j ≡ completed tt → (initialBad ≡ false) × (samplesBad ≡ false) × (matricesBad ≡ false) × (slotsBad ≡ false)
-  unfolding lengthChecks
-  lengths h =
-      let initial = passed-check initialBad 7 (whole 1 ∷ []) _ tt h in
-      let samples = passed-check samplesBad 7 (whole 2 ∷ []) _ tt (initial .1) in
-      let matrices = passed-check matricesBad 7 (whole 3 ∷ []) _ tt (samples .1) in
-      let codewords = passed-check codewordsBad 7 (whole 4 ∷ []) _ tt (matrices .1) in
-      let floats = passed-check floatsBad 7 (whole 7 ∷ []) _ tt (codewords .1) in
-      let integers = passed-check integersBad 7 (whole 8 ∷ []) _ tt (floats .1) in
-      let slots = passed-check slotsBad 7 (whole 9 ∷ []) _ tt (integers .1) in
-      (initial .0, samples .0, matrices .0, slots .0)
-
-  values : valueChecks j ≡ completed tt → (firstOutside refineLimit (j .initial) ≡ Nowhere) × (firstOutside refineLimit (j .samples) ≡ Nowhere) × (firstOutside refineLimit (j .matrices) ≡ Nowhere)
-  unfolding valueChecks
-  values h =
-      let initial = passed-bounded 1 (firstOutside refineLimit (j .initial)) _ tt h in
-      let samples = passed-bounded 2 (firstOutside refineLimit (j .samples)) _ tt (initial .1) in
-      let matrices = passed-bounded 3 (firstOutside refineLimit (j .matrices)) _ tt (samples .1) in
-      (initial .0, samples .0, matrices .0)
-
-  pub checked : refineChecks j ≡ completed tt → Checked j
-  unfolding refineChecks
-  checked h =
-      let rest = also-next (validity (j .profile) (j .schema) (j .algorithm) (j .log2)) _ h in
-      let l = lengths (also-first (lengthChecks j) (valueChecks j) rest) in
-      let v = values (also-next (lengthChecks j) (valueChecks j) rest) in
-      record {
-        profile = valid (j .profile) (j .schema) (j .algorithm) (j .log2) (also-first (validity (j .profile) (j .schema) (j .algorithm) (j .log2)) _ h);
-        initial = eqb-true _ _ (not-false _ (l .0));
-        samples = eqb-true _ _ (not-false _ (l .1));
-        matrices = eqb-true _ _ (not-false _ (l .2));
-        slots = leb-true _ _ (not-false _ (l .3));
-        initial-within = v .0;
-        samples-within = v .1;
-        matrices-within = v .2;
-      }
 
 -- ---- none of them answers 15
 module _ {A : Type 0} where

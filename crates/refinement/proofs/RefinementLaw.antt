@@ -3,10 +3,10 @@
 use mathlib.Core.Path.{_≡_, refl}
 use native.Mathlib.Omega.{arith}
 use Rattle.error.specs.Numbers.{completed}
-use Rattle.lloyd_cells.proofs.TallyLaw.{then-completed}
+use Rattle.error.proofs.Outcomes.{then-completed}
 use Rattle.lloyd_refine.specs.Refine.{Job, restartsOf, iterationsOf, refineChecks, restartsTo, refineOf, Best, refinement}
+use Rattle.lloyd_refine.proofs.CheckLaw.{checks-passed}
 use Rattle.refinement.specs.Refinement.{AcceptedRefinement, AnyRefinement}
-use Rattle.refinement.proofs.ChecksLaw.{checked}
 use Rattle.refinement.proofs.DonorLaw.{no-donor}
 use Rattle.refinement.proofs.CourseLaw.{courseOf, best-came, end-came, ran}
 use Rattle.refinement.proofs.WinsLaw.{wins}
@@ -16,7 +16,7 @@ use Rattle.refinement.proofs.RefusedLaw.{refused-refinement}
 module _ (j : Job) where
   accepted : (b : Best) → refineChecks j ≡ completed tt → restartsTo j (restartsOf j) ≡ completed b → AcceptedRefinement j b
   accepted b checks done =
-      let pass = checked j checks in
+      let pass = checks-passed j checks in
       let R = restartsOf j in
       record {
         course = courseOf j;

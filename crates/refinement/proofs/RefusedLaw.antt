@@ -11,26 +11,26 @@ use lib.Dec.{eqb, leb, ltb}
 use lib.ListN.{length}
 use lib.Ieee.{Float, le}
 use Rattle.error.specs.Numbers.{Value, Outcome, completed, refused, andThen, whole}
+use Rattle.error.proofs.Outcomes.{never, then-refused, completed-same}
 use Rattle.slices.specs.declared.First.{First}
 use Rattle.slices.specs.declared.First.the-variants.{Nowhere, At}
 use Rattle.profile.specs.declared.EmptyCellPolicy.{EmptyCellPolicy}
 use Rattle.lloyd_search.specs.Distance.{rowOf}
 use Rattle.lloyd_cells.specs.Repair.{Cells, Terms, Repaired, donorTo, leastNorm, residualNorm, repairBy, turn, repairTo}
 use Rattle.lloyd_cells.specs.Update.{means, farthestSample, failsClosed, emptyCells, updated}
-use Rattle.lloyd_cells.proofs.TallyLaw.{then-refused, splitBy}
+use Rattle.lloyd_cells.proofs.TallyLaw.{splitBy}
 use Rattle.lloyd_round.specs.Round.{cellOf}
 use Rattle.lloyd_update.specs.Alone.{updateChecks, updateOf, updateAlone}
 use Rattle.lloyd_refine.specs.Refine.{Job, sizeOf, dimOf, countOf, restartsOf, iterationsOf, refineChecks, roundTerms, roundOf, Trained, afterRound, roundOn, roundsTo, startOf, Best, trainedFrom, afterRestart, restartOn, restartsTo, refineOf, refinement}
+use Rattle.lloyd_refine.proofs.CheckLaw.{Passed, checks-passed}
 use Rattle.history.specs.History.{callWith}
 use Rattle.history.proofs.HistoryLaw.{history}
 use Rattle.refinement.specs.Refinement.{roundRequest, requestsTo, Reached, SameRefusal, RefusedRefinement}
-use Rattle.refinement.proofs.ChecksLaw.{Checked, checked}
-use Rattle.refinement.proofs.DonorLaw.{never, round-donor}
+use Rattle.refinement.proofs.DonorLaw.{round-donor}
 use Rattle.refinement.proofs.AloneLaw.{showing, repairs-shown, roundCall, count-is, checks-pass}
 use Rattle.refinement.proofs.CourseLaw.{bestAt, roundsAt, standAt, courseOf, stand-came, best-came, best-last, end-came}
 use Rattle.refinement.proofs.TameLaw.{reached-tame}
 use Rattle.refinement.proofs.RoundsLaw.{rounds}
-use Rattle.error.proofs.Outcomes.{completed-same}
 
 -- ---- an update that is refused is refused whatever number refusal 19 shows, which it shows then
 -- the refusal n, vs where 19 shows s, beside the outcome where it shows m
@@ -52,7 +52,7 @@ module _ (t : Terms) (m : ℕ) (far : ℕ → ℕ → Float) (n : ℕ) (vs : Lis
             → Alike (t .shown) m n vs (cond a (refused 16 (whole c ∷ [])) (cond b (refused 19 (whole m ∷ [])) (completed (splitBy t far e r c))))
         go true b k = let q : 16 ≡ n = cc in inl (inr (inr (sym q)), k)
         go false true k = let q : 19 ≡ n = cc in let v : whole (t .shown) ∷ [] ≡ vs = cc in inr (sym q, sym v, refl)
-        go false false k = absurd (never (splitBy t far e r c) n vs k)
+        go false false k = absurd (never n vs (splitBy t far e r c) (sym k))
 
     turn-alike : turn t far e r ≡ refused n vs → Alike (t .shown) m n vs (turn (showing t m far) far e r)
     turn-alike h = go (eqb (r .cells .tally e) 0) h
@@ -60,11 +60,11 @@ module _ (t : Terms) (m : ℕ) (far : ℕ → ℕ → Float) (n : ℕ) (vs : Lis
         go : (b : Bool) → cond b (repairBy t far e r (donorTo (r .cells .tally) (r .cells .distortion) (t .cells))) (completed r) ≡ refused n vs
             → Alike (t .shown) m n vs (cond b (repairBy (showing t m far) far e r (donorTo (r .cells .tally) (r .cells .distortion) (t .cells))) (completed r))
         go true k = repair-alike (donorTo (r .cells .tally) (r .cells .distortion) (t .cells)) k
-        go false k = absurd (never r n vs k)
+        go false k = absurd (never n vs r (sym k))
 
   repairs-alike : (st : Cells) (e : ℕ) → repairTo t far st e ≡ refused n vs → Alike (t .shown) m n vs (repairTo (showing t m far) far st e)
   unfolding repairTo
-  repairs-alike st zero h = absurd (never _ n vs h)
+  repairs-alike st zero h = absurd (never n vs _ (sym h))
   repairs-alike st (suc e) h = elim (then-refused (repairTo t far st e) (turn t far e) n vs h) [
     | inl p ↦ stays (t .shown) m n vs (repairTo (showing t m far) far st e) (turn (showing t m far) far e) (repairs-alike st e p)
     | inr (x, p, q) ↦ rw (repairs-shown t m far st e x p) (turn-alike e x q)
@@ -97,30 +97,30 @@ module _ (j : Job) (n : ℕ) (vs : List Value) where
   refused-round : (r : ℕ) (from : Trained) (i : ℕ) → i ≤ iterationsOf j → roundsTo j r from i ≡ refused n vs
       → (m : ℕ) × (t : Trained) × (m < iterationsOf j) × (roundsTo j r from m ≡ completed t) × (roundAt r m t ≡ refused n vs)
   unfolding roundsTo
-  refused-round r from zero l h = absurd (never from n vs h)
+  refused-round r from zero l h = absurd (never n vs from (sym h))
   refused-round r from (suc i) l h = elim (then-refused (roundsTo j r from i) (roundOn j r i) n vs h) [
     | inl p ↦ refused-round r from i (le-of-lt l) p
     | inr (s, p, q) ↦ elim (then-refused (roundAt r i s) (λ u. completed (afterRound j s u)) n vs q) [
       | inl o ↦ (i, s, l, p, o)
-      | inr (u, a, o) ↦ absurd (never (afterRound j s u) n vs o)
+      | inr (u, a, o) ↦ absurd (never n vs (afterRound j s u) (sym o))
     ]
   ]
 
   refused-restart : (r : ℕ) → r ≤ restartsOf j → restartsTo j r ≡ refused n vs
       → (m : ℕ) × (i : ℕ) × (t : Trained) × (m < restartsOf j) × (i < iterationsOf j) × Reached j m i t × (roundAt m i t ≡ refused n vs)
   unfolding restartsTo
-  refused-restart zero l h = absurd (never _ n vs h)
+  refused-restart zero l h = absurd (never n vs _ (sym h))
   refused-restart (suc r) l h = elim (then-refused (restartsTo j r) (restartOn j r) n vs h) [
     | inl p ↦ refused-restart r (le-of-lt l) p
     | inr (b, p, q) ↦ elim (then-refused (roundsTo j r (trainedFrom j r b) (iterationsOf j)) (λ t. completed (afterRestart j r b t)) n vs q) [
       | inl o ↦
           let (i, t, m, a, k) = refused-round r (trainedFrom j r b) (iterationsOf j) (le-refl (iterationsOf j)) o in
           (r, i, t, l, m, record { best = b; restarts = p; rounds = a }, k)
-      | inr (t, a, o) ↦ absurd (never (afterRestart j r b t) n vs o)
+      | inr (t, a, o) ↦ absurd (never n vs (afterRestart j r b t) (sym o))
     ]
   ]
 
-  module _ (pass : Checked j) (r i : ℕ) (t : Trained) (l : r < restartsOf j) (come : Reached j r i t) (h : roundAt r i t ≡ refused n vs) where
+  module _ (pass : Passed j) (r i : ℕ) (t : Trained) (l : r < restartsOf j) (come : Reached j r i t) (h : roundAt r i t ≡ refused n vs) where
     abbrev call-of : Outcome Repaired
     call-of = updateOf (roundCall j pass r i t (reached-tame j pass r i t l come .0) (reached-tame j pass r i t l come .1))
 
@@ -145,8 +145,8 @@ module _ (j : Job) (n : ℕ) (vs : List Value) where
       (h .restarts ∙ ap completed same, ap (λ (b : Best). roundsTo j r (trainedFrom j r b) i) (sym same) ∙ h .rounds)
 
   module _ (checks : refineChecks j ≡ completed tt) (r i : ℕ) (t : Trained) (l : r < restartsOf j) (m : i < iterationsOf j) (come : Reached j r i t) (h : roundAt r i t ≡ refused n vs) where
-    pass : Checked j
-    pass = checked j checks
+    pass : Passed j
+    pass = checks-passed j checks
 
     stands : t ≡ standAt j r i
     stands = let c = came r i t come in completed-same _ _ (sym (c .1) ∙ stand-came j r i t (c .1) i (le-refl i))

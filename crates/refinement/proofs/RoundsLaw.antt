@@ -24,10 +24,10 @@ use Rattle.lloyd_cells.specs.Repair.{Repaired}
 use Rattle.lloyd_update.specs.Alone.{Call, updateLimit, updateAlone, codebookAfter}
 use Rattle.lloyd_update.specs.Alone as alone
 use Rattle.lloyd_refine.specs.Refine.{Job, sizeOf, dimOf, countOf, restartsOf, iterationsOf, Trained, roundsTo, startOf, Best, refineChecks, restartsTo, slotsAfter}
+use Rattle.lloyd_refine.proofs.CheckLaw.{Passed}
 use Rattle.history.specs.History.{Request, callWith, after, answers, Tallies, AcceptedCall}
 use Rattle.history.proofs.HistoryLaw.{call-accepted, history}
 use Rattle.refinement.specs.Refinement.{Course, Ran, Reached, roundRequest, roundCallAt, requestsTo, toWord, Rounds, Logged}
-use Rattle.refinement.proofs.ChecksLaw.{Checked}
 use Rattle.refinement.proofs.CourseLaw.{bestAt, roundsAt, standAt, repairsAt, courseOf, stand-came, round-came, stand-next, best-came, end-came, ran}
 use Rattle.refinement.proofs.StandLaw.{rows-bounded, samples-within}
 use Rattle.refinement.proofs.TameLaw.{Tame, reached-tame}
@@ -96,7 +96,7 @@ same-tallies : (c : Call) (xs ys : List LloydRepairEvent) (n : ℕ) → n ≤ le
 same-tallies c xs ys n l e t = record { reported = l; free = t .free; sound = rw e (t .sound); counted = rw e (t .counted); balanced = rw e (t .balanced) }
 
 -- ---- the first n rounds of restart r, all of them completed
-module _ (j : Job) (pass : Checked j) (r n : ℕ) (l : r < restartsOf j) (best : restartsTo j r ≡ completed (bestAt j r)) (e : Trained)
+module _ (j : Job) (pass : Passed j) (r n : ℕ) (l : r < restartsOf j) (best : restartsTo j r ≡ completed (bestAt j r)) (e : Trained)
     (come : roundsAt j r n ≡ completed e) where
   abbrev at : ℕ → Trained
   at = standAt j r
@@ -132,12 +132,12 @@ module _ (j : Job) (pass : Checked j) (r n : ℕ) (l : r < restartsOf j) (best :
       let k = dimOf j in
       let book = rowOf k (at i .codebook) in
       let x = rowOf k (j .samples) s in
-      let p = pass .profile .shape in
+      let p = pass .valid .shape in
       let some = p .book-least in
       let t = tame i (omega arith) in
       let h : Least (toWord j (at i) s) N (nearest k N book x) =
       nearest-least 48 (lit≤ tt) k (p .block-most) N (omega arith) book (rows-bounded 48 N k (at i .codebook) (t .1) (t .0)) x
-      (rows-bounded 48 (countOf j) k (j .samples) (samples-within j pass) (pass .samples) s o) in
+      (rows-bounded 48 (countOf j) k (j .samples) (samples-within j pass) (pass .samples-length) s o) in
       subst (λ (w : ℕ). Least (toWord j (at i) s) N (record { index = w; distance = toWord j (at i) s w }))
       (sym (getD-tabulate (countOf j) (λ q. nearest k N book (rowOf k (j .samples) q) .index) s 0 o))
       (subst (λ (y : Float). Least (toWord j (at i) s) N (record { index = nearest k N book x .index; distance = y })) (h .is) h)
@@ -152,7 +152,7 @@ module _ (j : Job) (pass : Checked j) (r n : ℕ) (l : r < restartsOf j) (best :
   }
 
 -- ---- the events of an accepted refinement
-module _ (j : Job) (pass : Checked j) (b : Best) (checks : refineChecks j ≡ completed tt) (done : restartsTo j (restartsOf j) ≡ completed b) (r : ℕ)
+module _ (j : Job) (pass : Passed j) (b : Best) (checks : refineChecks j ≡ completed tt) (done : restartsTo j (restartsOf j) ≡ completed b) (r : ℕ)
     (l : r < restartsOf j) where
   abbrev c : Course
   c = courseOf j

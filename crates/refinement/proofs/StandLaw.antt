@@ -24,7 +24,7 @@ use Rattle.lloyd_search.proofs.FiniteLaw.{Bounded}
 use Rattle.lloyd_update.specs.Alone.{updateLimit}
 use Rattle.slices.specs.Lists.{wordsOf}
 use Rattle.lloyd_refine.specs.Refine.{Job, sizeOf, dimOf, restartsOf, matrixOf, initialWord, rotated, startOf}
-use Rattle.refinement.proofs.ChecksLaw.{Checked}
+use Rattle.lloyd_refine.proofs.CheckLaw.{Passed}
 use Rattle.lloyd_search.proofs.WithinLaw.{all-upto, wider}
 
 pub rows-bounded : (b n k : ℕ) (xs : List Float) → firstOutside (power b) xs ≡ Nowhere → length xs ≡ n * k → (i : ℕ) → i < n → Bounded b k (rowOf k xs i)
@@ -37,7 +37,7 @@ words-within n k word some h = all-upto 48 (wordsOf n k word) (λ i l. at i (rw 
     at : (i : ℕ) → i < n * k → Upto (getD (wordsOf n k word) i nan) (2 ^ 48)
     at i l = rw (getD-tabulate (n * k) (λ m. word (m / k) (m % k)) i nan l) (h (i / k) (i % k) (div-lt-iff-lt-mul {k = k} {x = i} {y = n} some .1 l) (mod-lt i some))
 
-module _ (j : Job) (pass : Checked j) where
+module _ (j : Job) (pass : Passed j) where
   abbrev n : ℕ
   n = sizeOf j
 
@@ -45,10 +45,10 @@ module _ (j : Job) (pass : Checked j) where
   k = dimOf j
 
   some-block : 1 ≤ k
-  some-block = pass .profile .shape .some-block
+  some-block = pass .valid .shape .some-block
 
   few-block : k ≤ 256
-  few-block = pass .profile .shape .block-most
+  few-block = pass .valid .shape .block-most
 
   pub samples-within : firstOutside updateLimit (j .samples) ≡ Nowhere
   samples-within = wider 20 48 (j .samples) (lit≤ tt) (pass .samples-within)
@@ -61,7 +61,7 @@ module _ (j : Job) (pass : Checked j) where
   start-length r = go (eqb r 0)
     where
       go : (q : Bool) → length (cond q (j .initial) (rotated j r)) ≡ n * k
-      go true = pass .initial
+      go true = pass .initial-length
       go false = length-tabulate (n * k) _
 
   module _ (r : ℕ) (l : r < restartsOf j) (later : r ≡ 0 → ⊥) where
@@ -70,12 +70,12 @@ module _ (j : Job) (pass : Checked j) where
     matrix-upto row c p q =
         let inside : row * k + c < k * k = row-place row k k c (k * k) p q refl in
         rw (getD-take (k * k) (drop ((r - 1) * (k * k)) (j .matrices)) (row * k + c) nan inside, getD-drop ((r - 1) * (k * k)) (j .matrices) (row * k + c) nan)
-        (all-within 20 (j .matrices) (pass .matrices-within) ((r - 1) * (k * k) + (row * k + c)) (row-place (r - 1) (restartsOf j - 1) (k * k) (row * k + c) (length (j .matrices)) (omega arith) inside (pass .matrices)))
+        (all-within 20 (j .matrices) (pass .matrices-within) ((r - 1) * (k * k) + (row * k + c)) (row-place (r - 1) (restartsOf j - 1) (k * k) (row * k + c) (length (j .matrices)) (omega arith) inside (pass .matrices-length)))
 
     pub word-upto : (w c : ℕ) → w < n → c < k → Upto (getD (initialWord j w) c nan) (2 ^ 20)
     word-upto w c p q =
         rw (getD-take k (drop (w * k) (j .initial)) c nan q, getD-drop (w * k) (j .initial) c nan)
-        (all-within 20 (j .initial) (pass .initial-within) (w * k + c) (row-place w n k c (length (j .initial)) p q (pass .initial)))
+        (all-within 20 (j .initial) (pass .initial-within) (w * k + c) (row-place w n k c (length (j .initial)) p q (pass .initial-length)))
 
     applied-upto : (w row : ℕ) → w < n → row < k → Upto (appliedAt k (matrixOf j r) (initialWord j w) row) (2 ^ 48)
     applied-upto w row p q =

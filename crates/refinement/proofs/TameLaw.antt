@@ -6,19 +6,18 @@ use lib.Dec.{lit≤}
 use lib.ListN.{length}
 use lib.Ieee.{Float}
 use Rattle.error.specs.Numbers.{completed}
+use Rattle.error.proofs.Outcomes.{completed-same, then-completed}
 use Rattle.slices.specs.declared.First.the-variants.{Nowhere}
 use Rattle.slices.specs.Limit.{firstOutside}
 use Rattle.slices.proofs.TabulateLaw.{length-tabulate}
 use Rattle.lloyd_search.specs.Distance.{rowOf}
-use Rattle.lloyd_search.proofs.AnswersLaw.{completed-same}
 use Rattle.lloyd_cells.specs.Repair.{Repaired}
-use Rattle.lloyd_cells.proofs.TallyLaw.{then-completed}
 use Rattle.lloyd_round.specs.Round.{cellOf}
 use Rattle.lloyd_update.specs.Alone.{updateLimit}
 use Rattle.lloyd_refine.specs.Refine.{Job, sizeOf, dimOf, countOf, restartsOf, iterationsOf, roundTerms, roundOf, Trained, afterRound, roundOn, roundsTo, Best, trainedFrom, restartsTo}
+use Rattle.lloyd_refine.proofs.CheckLaw.{Passed}
 use Rattle.finite.proofs.StepLaw.{updated-kept}
 use Rattle.refinement.specs.Refinement.{Reached}
-use Rattle.refinement.proofs.ChecksLaw.{Checked}
 use Rattle.refinement.proofs.CourseLaw.{bestAt, standAt, stand-came, end-came}
 use Rattle.refinement.proofs.StandLaw.{rows-bounded, words-within, samples-within, start-length, start-within}
 
@@ -26,17 +25,17 @@ use Rattle.refinement.proofs.StandLaw.{rows-bounded, words-within, samp
 abbrev pub Tame : Job → List Float → Type 0
 Tame j codebook = (length codebook ≡ sizeOf j * dimOf j) × (firstOutside updateLimit codebook ≡ Nowhere)
 
-module _ (j : Job) (pass : Checked j) where
+module _ (j : Job) (pass : Passed j) where
   -- what a completed round leaves, from whatever codebook
   round-tame : (r i : ℕ) (t : Trained) (u : Repaired) → roundOf j r i (length (t .events)) (t .codebook) ≡ completed u → Tame j (afterRound j t u .codebook)
   round-tame r i t u h =
       let n = sizeOf j in
       let k = dimOf j in
-      let shape = pass .profile .shape in (
+      let shape = pass .valid .shape in (
         length-tabulate (n * k) _,
         words-within n k (u .cells .word) (shape .some-block)
-            (updated-kept (roundTerms j r i (length (t .events))) (countOf j) (rowOf k (j .samples)) (cellOf k n (countOf j) (j .samples) (t .codebook)) (rowOf k (t .codebook)) (shape .block-most) (pass .profile .settings .samples-most) 48 (lit≤ tt)
-            (rows-bounded 48 (countOf j) k (j .samples) (samples-within j pass) (pass .samples)) (j .profile .«empty_cell_policy») u h),
+            (updated-kept (roundTerms j r i (length (t .events))) (countOf j) (rowOf k (j .samples)) (cellOf k n (countOf j) (j .samples) (t .codebook)) (rowOf k (t .codebook)) (shape .block-most) (pass .valid .settings .samples-most) 48 (lit≤ tt)
+            (rows-bounded 48 (countOf j) k (j .samples) (samples-within j pass) (pass .samples-length)) (j .profile .«empty_cell_policy») u h),
       )
 
   pub rounds-tame : (r i : ℕ) (b : Best) (t : Trained) → r < restartsOf j → roundsTo j r (trainedFrom j r b) i ≡ completed t → Tame j (t .codebook)

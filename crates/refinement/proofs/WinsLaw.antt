@@ -22,28 +22,28 @@ use Rattle.lloyd_search.proofs.NearestLaw.{first-least}
 use Rattle.lloyd_search.proofs.FiniteLaw.{finite-mean}
 use Rattle.lloyd_update.specs.Alone.{updateLimit}
 use Rattle.lloyd_refine.specs.Refine.{Job, sizeOf, dimOf, countOf, restartsOf, iterationsOf, errorOf, Best, restart, afterRestart, restartsTo}
+use Rattle.lloyd_refine.proofs.CheckLaw.{Passed}
 use Rattle.refinement.specs.Refinement.{candidate, placeOf, Wins}
-use Rattle.refinement.proofs.ChecksLaw.{Checked}
 use Rattle.refinement.proofs.CourseLaw.{bestAt, standAt, courseOf, best-last, best-next}
 use Rattle.refinement.proofs.StandLaw.{rows-bounded, samples-within, initial-within}
 use Rattle.refinement.proofs.TameLaw.{stand-tame}
 
-module _ (j : Job) (pass : Checked j) where
+module _ (j : Job) (pass : Passed j) where
   -- values of at most 2 ^ 48 have a finite mean error, with all that it is made of
   pub error-finite : (codebook : List Float) → length codebook ≡ sizeOf j * dimOf j → firstOutside updateLimit codebook ≡ Nowhere → FiniteMean (dimOf j) (sizeOf j) (rowOf (dimOf j) codebook) (rowOf (dimOf j) (j .samples)) (countOf j)
   error-finite codebook e h =
-      let p = pass .profile in
+      let p = pass .valid in
       let l = p .shape .book-least in
       let m = p .settings .samples-least in
       finite-mean 48 (lit≤ tt) (dimOf j) (p .shape .block-most) (sizeOf j) (omega arith) (rowOf (dimOf j) codebook) (rows-bounded 48 (sizeOf j) (dimOf j) codebook h e)
-      (rowOf (dimOf j) (j .samples)) (countOf j) (rows-bounded 48 (countOf j) (dimOf j) (j .samples) (samples-within j pass) (pass .samples)) (p .settings .samples-most) (omega arith)
+      (rowOf (dimOf j) (j .samples)) (countOf j) (rows-bounded 48 (countOf j) (dimOf j) (j .samples) (samples-within j pass) (pass .samples-length)) (p .settings .samples-most) (omega arith)
 
   module _ (b : Best) (done : restartsTo j (restartsOf j) ≡ completed b) where
     abbrev errorAt : ℕ → Float
     errorAt p = errorOf j (candidate j (courseOf j) p)
 
     errors-finite : (p : ℕ) → p < suc (restartsOf j) → T (finite (errorAt p))
-    errors-finite zero l = error-finite (j .initial) (pass .initial) (initial-within j pass) .quotient
+    errors-finite zero l = error-finite (j .initial) (pass .initial-length) (initial-within j pass) .quotient
     errors-finite (suc r) l =
         let end = stand-tame j pass b done r (iterationsOf j) (omega arith) (le-refl (iterationsOf j)) in
         error-finite (standAt j r (iterationsOf j) .codebook) (end .0) (end .1) .quotient

@@ -11,11 +11,12 @@ use lib.ListN.{length, getD, length-append, List·getD-append}
 use lib.Ieee.{binary64, round, le}
 use borrow.Author.Tests.{le-leb, lt-leb}
 use Rattle.error.specs.Numbers.{completed}
+use Rattle.error.proofs.Outcomes.{then-completed}
 use Rattle.slices.specs.declared.First.the-variants.{At}
 use Rattle.lloyd_events.specs.declared.LloydRepairEvent.{LloydRepairEvent}
 use Rattle.lloyd_events.specs.Events.{zeroEvent}
 use Rattle.lloyd_cells.specs.Repair.{Repaired, epsilon, leastNorm, residualNorm, eventOf, turn, repairTo}
-use Rattle.lloyd_cells.proofs.TallyLaw.{then-completed, splitBy, turn-completed, tallied}
+use Rattle.lloyd_cells.proofs.TallyLaw.{splitBy, turn-completed, tallied}
 use Rattle.lloyd_repair.proofs.TurnLaw.{is-empty}
 use Rattle.lloyd_update.specs.Alone.{Call, updateChecks, termsOf}
 use Rattle.lloyd_update.specs.Progress.{startOf, farOf}

@@ -11,6 +11,7 @@ use lib.IntN.{pos}
 use lib.Ieee.{Float, binary64, div, ofInt}
 use borrow.Author.Tests.{eqb-true, ltb-true, ltb-false, lt-ltb, le-ltb}
 use Rattle.error.specs.Numbers.{Value, Outcome, completed, refused, whole}
+use Rattle.error.proofs.Outcomes.{then-refused}
 use Rattle.profile.specs.declared.EmptyCellPolicy.{EmptyCellPolicy}
 use Rattle.profile.specs.declared.EmptyCellPolicy.the-variants.{SplitHighestDistortion, FailClosed}
 use Rattle.lloyd_search.proofs.AnswersLaw.{passed-check}
@@ -19,7 +20,6 @@ use Rattle.lloyd_cells.specs.Repair.{Repaired, repairBy, turn, repairTo}
 use Rattle.lloyd_cells.specs.Update.{failsClosed, updated}
 use Rattle.lloyd_cells.proofs.CellsLaw.{countTo-some, countTo-none}
 use Rattle.lloyd_cells.proofs.DonorLaw.{donor-none}
-use Rattle.lloyd_cells.proofs.TallyLaw.{then-refused}
 use Rattle.lloyd_repair.proofs.TurnLaw.{skip}
 use Rattle.lloyd_update.specs.Alone.{Call, updateChecks, termsOf, updateOf}
 use Rattle.lloyd_update.specs.Progress.{samplesOf, sampleOf, cellOf, startOf, farOf, distanceOf}

@@ -10,13 +10,14 @@ use lib.ListN.{length}
 use lib.Ieee.{Float, le}
 use borrow.Author.Tests.{leb-true, leb-false}
 use Rattle.error.specs.Numbers.{Value, completed, refused, whole}
+use Rattle.error.proofs.Outcomes.{then-completed}
 use Rattle.ieee.specs.Sum.{plusZero}
 use Rattle.slices.specs.declared.First.{First}
 use Rattle.slices.specs.declared.First.the-variants.{Nowhere, At}
 use Rattle.lloyd_search.proofs.AnswersLaw.{passed-check, completed-same}
 use Rattle.lloyd_events.specs.declared.LloydRepairEvent.{LloydRepairEvent}
 use Rattle.lloyd_cells.specs.Repair.{Terms, Repaired, donorTo, leastNorm, residualNorm, eventOf, repairBy, turn, repairTo}
-use Rattle.lloyd_cells.proofs.TallyLaw.{then-completed, splitBy, turn-completed}
+use Rattle.lloyd_cells.proofs.TallyLaw.{splitBy, turn-completed}
 use Rattle.lloyd_update.specs.Alone.{Call, termsOf}
 use Rattle.lloyd_update.specs.Progress.{startOf, farOf}
 use Rattle.history.proofs.TalliesLaw.{follows}

@@ -1,6 +1,7 @@
 -- `lloyd_refine::paused` meets its contract, by the turn. Assumes nothing.
-use mathlib.Core.Path.{refl}
+use mathlib.Core.Path.{refl, ap, _∙_}
 use borrow.Author.Needs.{needs}
+use Rattle.lloyd_refine.specs.declared.Refinement.the-variants.{Report}
 use Rattle.lloyd_refine.proofs.paused.Statement.{statement}
 use Rattle.lloyd_refine.proofs.paused.Tie as tie
 
@@ -32,13 +33,13 @@ stop-requires-2 : tie.Need-stop-requires-2
 stop-requires-2 c κs = search needs
 
 returns : tie.Need-returns
-returns c = rw (c .before .before .before .turn .given .1) (refl, refl, refl, refl, refl)
+returns c = rw (c .before .before .before .turn .given .1) (refl, refl, refl, refl, refl, ap Report (c .report .ensures))
 
 returns-2 : tie.Need-returns-2
-returns-2 c = rw (c .before .before .before .enum-told .given .1) (refl, c .stop .ensures .2)
+returns-2 c = rw (c .before .before .before .enum-told .given .1) (refl, c .stop .ensures .0, c .stop .ensures .1, c .stop .ensures .4, c .stop .ensures .2, c .stop .ensures .3 ∙ ap Report (c .before .report2 .ensures))
 
 returns-3 : tie.Need-returns-3
-returns-3 c = rw (c .before .before .turn2 .given .1) (refl, c .stop2 .ensures .0, c .stop2 .ensures .1, c .stop2 .ensures .3, c .stop2 .ensures .2)
+returns-3 c = rw (c .before .before .turn2 .given .1) (refl, c .stop2 .ensures .0, c .stop2 .ensures .1, c .stop2 .ensures .4, c .stop2 .ensures .2, c .stop2 .ensures .3)
 
 pub paused-spec : {M : Type 1} → statement M
 paused-spec =

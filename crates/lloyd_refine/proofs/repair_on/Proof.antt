@@ -1,8 +1,8 @@
 -- `lloyd_refine::repair_on` meets its contract: a turn of the repairs says where it leaves the refinement. Assumes nothing.
 use mathlib.Core.Path.{_≡_, sym, ap, subst}
 use mathlib.Core.List.{_++_}
-use Prim.Native.Nat.{ℕ}
 use borrow.Author.Needs.{needs}
+use Rattle.profile.specs.declared.FibQuantProfile.{FibQuantProfile}
 use Rattle.lloyd_cells.specs.declared.Places.{Places}
 use Rattle.lloyd_cells.specs.Work.{Kept}
 use Rattle.lloyd_repair.specs.declared.Turn.{Turn}
@@ -17,10 +17,10 @@ use Rattle.lloyd_refine.proofs.repair_on.Statement.{statement}
 use Rattle.lloyd_refine.proofs.repair_on.Tie as tie
 
 -- the same round
-same-round : (n : ℕ) (s : RefineState) (o : Turn) (p : Pause) → Paused n s o p → (p .step .state .restart ≡ s .restart) × (p .step .state .iteration ≡ s .iteration)
-same-round n s (turns.Repair e next) p h = (ap (λ (z : RefineState). z .restart) (h .4), ap (λ (z : RefineState). z .iteration) (h .4))
-same-round n s turns.Done p h = (ap (λ (z : RefineState). z .restart) (h .1), ap (λ (z : RefineState). z .iteration) (h .1))
-same-round n s (turns.Refused x) p h = (ap (λ (z : RefineState). z .restart) (h .4), ap (λ (z : RefineState). z .iteration) (h .4))
+same-round : (f : FibQuantProfile) (s : RefineState) (o : Turn) (p : Pause) → Paused f s o p → (p .step .state .restart ≡ s .restart) × (p .step .state .iteration ≡ s .iteration)
+same-round f s (turns.Repair e next) p h = (ap (λ (z : RefineState). z .restart) (h .4), ap (λ (z : RefineState). z .iteration) (h .4))
+same-round f s turns.Done p h = (ap (λ (z : RefineState). z .restart) (h .4), ap (λ (z : RefineState). z .iteration) (h .4))
+same-round f s (turns.Refused x) p h = (ap (λ (z : RefineState). z .restart) (h .4), ap (λ (z : RefineState). z .iteration) (h .4))
 
 cast-n : tie.Need-cast-n
 cast-n c = search needs
@@ -55,7 +55,7 @@ returns c =
       λ j b t u same h. by-job j (λ (z : Job). InRound z b t u (a .s) (a .work .now) (a .ints .now) → Stands z (t .events ++ u .events) (n .repair-next .last .0) (n .repair-next .last .1 .0) (c .paused .result)) same
           (λ g. turned g (n .repair-next .last .0) (n .repair-next .last .1 .0) (subst (λ (z : Places). Kept z (a .profile .«codebook_size») (a .profile .«block_dim») (a .work .now) (n .repair-next .last .0)) e (n .repair-next .ensures .1 .0)) (n .repair-next .kept .1 .0) (n .repair-next .result) (c .paused .result) (c .paused .ensures)
           (of-turn g p e (n .repair-next .last .0) (n .repair-next .last .1 .0) (n .repair-next .result) (n .repair-next .ensures .0 _ _ u (sym (g .made)) (to-turn g p e)))) h,
-      same-round (a .profile .«codebook_size») (a .s) (n .repair-next .result) (c .paused .result) (c .paused .ensures),
+      same-round (a .profile) (a .s) (n .repair-next .result) (c .paused .result) (c .paused .ensures),
     )
 
 pub repair-on-spec : {M : Type 1} → statement M

@@ -8,11 +8,11 @@ use Rattle.error.specs.Numbers.{completed}
 use Rattle.lloyd_refine.specs.Refine.{Job, refineChecks, trainedFrom, startBest}
 use Rattle.lloyd_refine.specs.Standing.{jobOf}
 use Rattle.lloyd_refine.specs.Steps.{Stands}
-use Rattle.lloyd_steps.specs.Rounds.{AtRound}
+use Rattle.lloyd_steps.specs.Rounds.{firstState, AtRound}
 use Rattle.lloyd_refine.proofs.CheckLaw.{Passed, checks-passed}
 use Rattle.lloyd_refine.proofs.TurnLaw.{by-job, to-args}
 use Rattle.lloyd_steps.proofs.RestartLaw.{can-measure}
-use Rattle.lloyd_steps.proofs.BeginLaw.{firstState, begins}
+use Rattle.lloyd_steps.proofs.BeginLaw.{begins}
 use Rattle.lloyd_steps.proofs.start_refine.Statement.{statement}
 use Rattle.lloyd_steps.proofs.start_refine.Tie as tie
 
