@@ -95,15 +95,12 @@ packed-lt p E x = go x
     some : 0 < H
     some = pow-pos (p - 1)
 
-    split : topOf p E ≡ infOf p E + H
-    split = top-split p E
-
     signed : (s : Bool) (m : ℕ) → m ≤ infOf p E → cond s (topOf p E) 0 + m < 2 * topOf p E
-    signed true m h = omega (arith, split, some)
-    signed false m h = omega (arith, split, some)
+    signed true m h = omega (arith, top-split p E, some)
+    signed false m h = omega (arith, top-split p E, some)
 
     go : (x : Float) → packed p E x < 2 * topOf p E
-    go nan = omega (arith, split, some, div-le-self H 2)
+    go nan = omega (arith, top-split p E, some, div-le-self H 2)
     go (inf s) = signed s (infOf p E) (le-refl (infOf p E))
     go (fin s m e) = signed s (magOf p E (m * up e) (down e)) (mag-le p E (m * up e) (down e))
 

@@ -1,21 +1,23 @@
 -- `narrow::scaled` meets its contract: the product is exact, and the number that it is has one float in binary32. Assumes nothing.
 use mathlib.Core.Path.{_≡_, refl, sym, ap, _∙_, subst}
-use Prim.Native.Nat.{ℕ, _+_, _-_, _*_, _/_, _%_, _^_, _<_}
-use native.Mathlib.Nat.{lt-of-lt-of-le}
+use Prim.Native.Nat.{ℕ, _+_, _*_, _%_, _^_, _<_}
+use native.Mathlib.Nat.{le-refl, lt-of-lt-of-le}
 use native.Mathlib.Omega.{arith}
 use mathlib.Core.Bool.{Bool, false, not}
-use lib.Dec.{T, lit<, le→leb}
+use lib.Dec.{T, lit<, lit≤, le→leb}
 use lib.IntN.{pos}
 use lib.Pow.{pow-add, pow-pos, pow-mono, shl-lt}
-use lib.Ieee.{Float, binary32, ofInt, ofBits, ofFields, odd, mul, round, nanBits, inFloat}
+use lib.Ieee.{binary32, ofInt, ofBits, odd, mul, round, nanBits, inFloat}
 use lib.Ieee.Back.{round-whole}
 use lib.Ieee.Bits.{nanBits-above}
 use lib.Ieee.Exact.{HasValue, odd-sign, round-exact}
 use lib.Ieee.Fits.{round-fits, odd-fits}
 use borrow.Author.Needs.{needs}
-use borrow.Author.Tests.{le-ltb, lt-leb}
+use borrow.Author.Tests.{le-ltb}
+use Rattle.narrow.specs.Format.{unitsOf}
 use Rattle.narrow.proofs.Exactly.{same-value, odd-shift, mul-value}
-use Rattle.narrow.proofs.Fields.{field-norm}
+use Rattle.narrow.proofs.ToNearest.{units-at}
+use Rattle.narrow.proofs.Unpacked.{ofBits-value}
 use Rattle.narrow.proofs.scaled.Statement.{statement}
 use Rattle.narrow.proofs.scaled.Tie as tie
 
@@ -30,18 +32,12 @@ module _ (q k : ℕ) (Q : q < 2048) (K : k < 30) where
   no-nan-pattern : nanBits binary32 (power k) ≡ false
   no-nan-pattern = nanBits-above binary32 (power k) ∙ le-ltb 2139095040 (power k % 2147483648) (omega arith)
 
-  fields : ofBits binary32 (power k) ≡ ofFields binary32 false (k + 103) 0
-  unfolding ofBits
-  fields =
-      let x : power k % 2147483648 / 8388608 ≡ k + 103 = omega arith in
-      let t : power k % 8388608 ≡ 0 = omega arith in
-      rw (lt-leb 2147483648 (power k) (omega arith), x, t)
-
   power-value : HasValue (ofBits binary32 (power k)) false (2 ^ (k + 125)) (2 ^ 149)
   power-value =
-      let e : 8388608 * 2 ^ (k + 103 - 1) ≡ 2 ^ (k + 125) = sym (pow-add 2 23 (k + 103 - 1)) ∙ ap (λ (x : ℕ). 2 ^ x) (omega arith) in
-      subst (λ (x : Float). HasValue x false (2 ^ (k + 125)) (2 ^ 149)) (sym fields)
-      (subst (λ (w : ℕ). HasValue (ofFields binary32 false (k + 103) 0) false w (2 ^ 149)) e (field-norm binary32 false (k + 103) 0 (omega arith) (omega arith)))
+      let at : power k ≡ (k + 102) * 8388608 + 8388608 = omega arith in
+      let l : power k < 2139095040 = omega arith in
+      let u : unitsOf 24 (power k) ≡ 2 ^ (k + 125) = ap (unitsOf 24) at ∙ units-at 24 (k + 102) 8388608 (lit≤ tt) (λ _. le-refl 8388608) ∙ sym (pow-add 2 23 (k + 102)) ∙ ap (λ (x : ℕ). 2 ^ x) (omega arith) in
+      subst (λ (w : ℕ). HasValue (ofBits binary32 (power k)) false w (2 ^ 149)) u (ofBits-value binary32 (power k) l)
 
   product : mul binary32 (ofInt binary32 (pos q)) (ofBits binary32 (power k)) ≡ odd 11 false q k 24
   product =

@@ -6,23 +6,17 @@ use native.Mathlib.Omega.{arith}
 use mathlib.Core.Bool.{Bool, true, false, not, cond, true≢false}
 use lib.Dec.{T, leb, eqb, nltb→le}
 use lib.IntN.{ℤ}
-use lib.Ieee.{Float, nan, inf, fin, Format, binary64, prec, emax, low, hid, up, down, ne, div, odd, ofBits, ofFields, toBits, isNan}
-use lib.Ieee.Compare.{differs-from-itself, nan-differs}
+use lib.Ieee.{Float, nan, inf, fin, Format, binary64, prec, emax, low, hid, up, down, div, odd, ofBits, ofFields, toBits, isNan}
+use lib.Ieee.Compare.{differs-from-itself}
 use lib.Ieee.Bits.{ofBits-toBits, nanBits-is, nanBits-above}
 use borrow.Author.Tests.{le-leb, lt-leb}
 use Rattle.ieee.specs.Bounds.{NotNegative}
-use Rattle.narrow.proofs.PackLaw.{toBits-at}
+use Rattle.narrow.proofs.PackLaw.{toBits-at, equal-not-nan}
 use Rattle.root.specs.Sqrt.{sqrtOf}
 use Rattle.root.proofs.Bounds.{sqrt-fits, sqrt-no-nan}
 use borrow.Author.Needs.{needs}
 use Rattle.root.proofs.sqrt.Statement.{statement}
 use Rattle.root.proofs.sqrt.Tie as tie
-
-equal-not-nan : (x : Float) → ne x x ≡ false → T (not (isNan x))
-unfolding isNan
-equal-not-nan nan h = absurd (true≢false (sym nan-differs ∙ h))
-equal-not-nan (inf s) h = tt
-equal-not-nan (fin s m e) h = tt
 
 -- ---- the values that are their own roots
 of-nan : sqrtOf binary64 nan ≡ nan
