@@ -197,7 +197,7 @@ pub extern "C" fn fib_refine(
     put_refined(answer, report, whole, real)
 }
 
-// A report of this schema against the profile.
+// A report of this schema against the profile, of which the test needs neither the texts nor log2.
 #[no_mangle]
 pub extern "C" fn fib_validate_report(
     report_schema: &[u8],
@@ -210,17 +210,14 @@ pub extern "C" fn fib_validate_report(
     empty_cells_repaired: u32,
     events_used: u32,
     seed: u64,
-    schema: &[u8],
     ambient_dim: u32,
     block_dim: u32,
     codebook_size: u32,
-    log2: f64,
     paper_rate: f64,
     wire_index_bits: u8,
     wire_rate: f64,
     norm_format: u8,
     rotation_seed: u64,
-    rotation_algorithm: &[u8],
     codebook_seed: u64,
     source_mode: u8,
     radius_method: u8,
@@ -232,7 +229,13 @@ pub extern "C" fn fib_validate_report(
     whole: &mut [u64; 4],
     real: &mut [f64; 2],
 ) -> u32
-    ensures { λ r. ⌜ found r (now (whole .exit)) (now (real .exit)) ≡ crossed none (reportTest (reportFrom «restarts_reported» «iterations_reported» «training_samples_reported» «init_mse» «best_mse» «best_restart» «empty_cells_repaired» «events_used» seed) (now («report_schema» .entry)) (profileFrom «ambient_dim» «block_dim» «codebook_size» «paper_rate» «wire_index_bits» «wire_rate» «norm_format» «rotation_seed» «codebook_seed» «source_mode» «radius_method» «direction_method» restarts iterations «training_samples» «empty_cell_policy»)) ⌝ }
+    ensures { λ r. ⌜ (let report = reportFrom «restarts_reported» «iterations_reported» «training_samples_reported»
+        «init_mse» «best_mse» «best_restart» «empty_cells_repaired» «events_used» seed in
+        let profile = profileFrom «ambient_dim» «block_dim» «codebook_size» «paper_rate» «wire_index_bits» «wire_rate»
+        «norm_format» «rotation_seed» «codebook_seed» «source_mode» «radius_method» «direction_method» restarts
+        iterations «training_samples» «empty_cell_policy» in
+        found r (now (whole .exit)) (now (real .exit))
+        ≡ crossed none (reportTest report (now («report_schema» .entry)) profile)) ⌝ }
 {
     let profile = ffi_profile::profile_from(
         ambient_dim,
