@@ -67,18 +67,23 @@ pub extern "C" fn fib_update(
     whole: &mut [u64; 4],
     real: &mut [f64; 2],
 ) -> u32
-    ensures answer { λ r. ⌜ found r (now (whole .exit)) (now (real .exit)) ≡ crossed oneWhole (andThen (updateAlone (callOf (termsFrom «codebook_size» «block_dim» policy restart iteration) (now (codebook .entry)) (now (samples .entry)) (now (assignments .entry)) (length (now (work .entry))) (length (now (counts .entry))) (length (now (events .entry))))) (λ u. completed (length (u .events)))) ⌝ }
-    ensures codebook { λ r. ⌜ now (codebook .exit) ≡ codebookAfter (callOf (termsFrom «codebook_size» «block_dim» policy restart iteration) (now (codebook .entry)) (now (samples .entry)) (now (assignments .entry)) (length (now (work .entry))) (length (now (counts .entry))) (length (now (events .entry)))) ⌝ }
-    ensures work { λ r. ⌜ now (work .exit) ≡ workAfter plusZero (callOf (termsFrom «codebook_size» «block_dim» policy restart iteration) (now (codebook .entry)) (now (samples .entry)) (now (assignments .entry)) (length (now (work .entry))) (length (now (counts .entry))) (length (now (events .entry)))) (now (work .entry)) ⌝ }
-    ensures counts { λ r. ⌜ now (counts .exit) ≡ workAfter 0 (callOf (termsFrom «codebook_size» «block_dim» policy restart iteration) (now (codebook .entry)) (now (samples .entry)) (now (assignments .entry)) (length (now (work .entry))) (length (now (counts .entry))) (length (now (events .entry)))) (now (counts .entry)) ⌝ }
-    ensures events { λ r. ⌜ now (events .exit) ≡ slotsAfter (callOf (termsFrom «codebook_size» «block_dim» policy restart iteration) (now (codebook .entry)) (now (samples .entry)) (now (assignments .entry)) (length (now (work .entry))) (length (now (counts .entry))) (length (now (events .entry)))) (now (events .entry)) ⌝ }
+    ensures { λ r. ⌜ (let c = callOf (termsFrom «codebook_size» «block_dim» policy restart iteration)
+        (now (codebook .entry)) (now (samples .entry)) (now (assignments .entry))
+        (length (now (work .entry))) (length (now (counts .entry))) (length (now (events .entry))) in
+        let outcome = andThen (updateAlone c) (λ u. completed (length (u .events))) in
+        (found r (now (whole .exit)) (now (real .exit)) ≡ crossed oneWhole outcome)
+        × (now (codebook .exit) ≡ codebookAfter c)
+        × (now (work .exit) ≡ workAfter plusZero c (now (work .entry)))
+        × (now (counts .exit) ≡ workAfter 0 c (now (counts .entry)))
+        × (now (events .exit) ≡ slotsAfter c (now (events .entry)))) ⌝ }
 {
     let t = terms(codebook_size, block_dim, policy, restart, iteration);
     let answer = update::update_centroids(codebook, samples, assignments, work, counts, events, t);
     put_updated(answer, whole, real)
 }
 
-// The answer of a refinement: its two errors in `real`, the report's other members in `report`, which a refusal leaves as it was.
+// The answer of a refinement: its two errors in `real`, the report's other members in `report`, which a refusal leaves as
+// it was.
 fn put_refined(
     answer: Refinement,
     report: &mut [u64; 7],
@@ -144,12 +149,19 @@ pub extern "C" fn fib_refine(
     whole: &mut [u64; 4],
     real: &mut [f64; 2],
 ) -> u32
-    ensures answer { λ r. ⌜ found r (now (whole .exit)) (now (real .exit)) ≡ crossed errorsIn (andThen (refinement (jobOf (profileFrom «ambient_dim» «block_dim» «codebook_size» «paper_rate» «wire_index_bits» «wire_rate» «norm_format» «rotation_seed» «codebook_seed» «source_mode» «radius_method» «direction_method» restarts iterations «training_samples» «empty_cell_policy») (now (schema .entry)) (now («rotation_algorithm» .entry)) log2 (now (initial .entry)) (now (samples .entry)) (now (matrices .entry)) (length (now (codewords .entry))) (length (now (work .entry))) (length (now (counts .entry))) (length (now (events .entry))))) (λ b. completed (reportOf (jobOf (profileFrom «ambient_dim» «block_dim» «codebook_size» «paper_rate» «wire_index_bits» «wire_rate» «norm_format» «rotation_seed» «codebook_seed» «source_mode» «radius_method» «direction_method» restarts iterations «training_samples» «empty_cell_policy») (now (schema .entry)) (now («rotation_algorithm» .entry)) log2 (now (initial .entry)) (now (samples .entry)) (now (matrices .entry)) (length (now (codewords .entry))) (length (now (work .entry))) (length (now (counts .entry))) (length (now (events .entry)))) b))) ⌝ }
-    ensures report { λ r. ⌜ now (report .exit) ≡ reportAfter (andThen (refinement (jobOf (profileFrom «ambient_dim» «block_dim» «codebook_size» «paper_rate» «wire_index_bits» «wire_rate» «norm_format» «rotation_seed» «codebook_seed» «source_mode» «radius_method» «direction_method» restarts iterations «training_samples» «empty_cell_policy») (now (schema .entry)) (now («rotation_algorithm» .entry)) log2 (now (initial .entry)) (now (samples .entry)) (now (matrices .entry)) (length (now (codewords .entry))) (length (now (work .entry))) (length (now (counts .entry))) (length (now (events .entry))))) (λ b. completed (reportOf (jobOf (profileFrom «ambient_dim» «block_dim» «codebook_size» «paper_rate» «wire_index_bits» «wire_rate» «norm_format» «rotation_seed» «codebook_seed» «source_mode» «radius_method» «direction_method» restarts iterations «training_samples» «empty_cell_policy») (now (schema .entry)) (now («rotation_algorithm» .entry)) log2 (now (initial .entry)) (now (samples .entry)) (now (matrices .entry)) (length (now (codewords .entry))) (length (now (work .entry))) (length (now (counts .entry))) (length (now (events .entry)))) b))) (now (report .entry)) ⌝ }
-    ensures codewords { λ r. ⌜ now (codewords .exit) ≡ codewordsAfter (jobOf (profileFrom «ambient_dim» «block_dim» «codebook_size» «paper_rate» «wire_index_bits» «wire_rate» «norm_format» «rotation_seed» «codebook_seed» «source_mode» «radius_method» «direction_method» restarts iterations «training_samples» «empty_cell_policy») (now (schema .entry)) (now («rotation_algorithm» .entry)) log2 (now (initial .entry)) (now (samples .entry)) (now (matrices .entry)) (length (now (codewords .entry))) (length (now (work .entry))) (length (now (counts .entry))) (length (now (events .entry)))) (now (codewords .entry)) ⌝ }
-    ensures work { λ r. ⌜ now (work .exit) ≡ Refine.workAfter plusZero (jobOf (profileFrom «ambient_dim» «block_dim» «codebook_size» «paper_rate» «wire_index_bits» «wire_rate» «norm_format» «rotation_seed» «codebook_seed» «source_mode» «radius_method» «direction_method» restarts iterations «training_samples» «empty_cell_policy») (now (schema .entry)) (now («rotation_algorithm» .entry)) log2 (now (initial .entry)) (now (samples .entry)) (now (matrices .entry)) (length (now (codewords .entry))) (length (now (work .entry))) (length (now (counts .entry))) (length (now (events .entry)))) (now (work .entry)) ⌝ }
-    ensures counts { λ r. ⌜ now (counts .exit) ≡ Refine.workAfter 0 (jobOf (profileFrom «ambient_dim» «block_dim» «codebook_size» «paper_rate» «wire_index_bits» «wire_rate» «norm_format» «rotation_seed» «codebook_seed» «source_mode» «radius_method» «direction_method» restarts iterations «training_samples» «empty_cell_policy») (now (schema .entry)) (now («rotation_algorithm» .entry)) log2 (now (initial .entry)) (now (samples .entry)) (now (matrices .entry)) (length (now (codewords .entry))) (length (now (work .entry))) (length (now (counts .entry))) (length (now (events .entry)))) (now (counts .entry)) ⌝ }
-    ensures events { λ r. ⌜ now (events .exit) ≡ Refine.slotsAfter (jobOf (profileFrom «ambient_dim» «block_dim» «codebook_size» «paper_rate» «wire_index_bits» «wire_rate» «norm_format» «rotation_seed» «codebook_seed» «source_mode» «radius_method» «direction_method» restarts iterations «training_samples» «empty_cell_policy») (now (schema .entry)) (now («rotation_algorithm» .entry)) log2 (now (initial .entry)) (now (samples .entry)) (now (matrices .entry)) (length (now (codewords .entry))) (length (now (work .entry))) (length (now (counts .entry))) (length (now (events .entry)))) (now (events .entry)) ⌝ }
+    ensures { λ r. ⌜ (let profile = profileFrom «ambient_dim» «block_dim» «codebook_size» «paper_rate»
+        «wire_index_bits» «wire_rate» «norm_format» «rotation_seed» «codebook_seed» «source_mode» «radius_method»
+        «direction_method» restarts iterations «training_samples» «empty_cell_policy» in
+        let j = jobOf profile (now (schema .entry)) (now («rotation_algorithm» .entry)) log2
+        (now (initial .entry)) (now (samples .entry)) (now (matrices .entry)) (length (now (codewords .entry)))
+        (length (now (work .entry))) (length (now (counts .entry))) (length (now (events .entry))) in
+        let outcome = andThen (refinement j) (λ b. completed (reportOf j b)) in
+        (found r (now (whole .exit)) (now (real .exit)) ≡ crossed errorsIn outcome)
+        × (now (report .exit) ≡ reportAfter outcome (now (report .entry)))
+        × (now (codewords .exit) ≡ codewordsAfter j (now (codewords .entry)))
+        × (now (work .exit) ≡ Refine.workAfter plusZero j (now (work .entry)))
+        × (now (counts .exit) ≡ Refine.workAfter 0 j (now (counts .entry)))
+        × (now (events .exit) ≡ Refine.slotsAfter j (now (events .entry)))) ⌝ }
 {
     let profile = ffi_profile::profile_from(
         ambient_dim,
@@ -185,7 +197,7 @@ pub extern "C" fn fib_refine(
     put_refined(answer, report, whole, real)
 }
 
-// A report of this schema against the profile.
+// A report of this schema against the profile, of which the test needs neither the texts nor log2.
 #[no_mangle]
 pub extern "C" fn fib_validate_report(
     report_schema: &[u8],
@@ -198,17 +210,14 @@ pub extern "C" fn fib_validate_report(
     empty_cells_repaired: u32,
     events_used: u32,
     seed: u64,
-    schema: &[u8],
     ambient_dim: u32,
     block_dim: u32,
     codebook_size: u32,
-    log2: f64,
     paper_rate: f64,
     wire_index_bits: u8,
     wire_rate: f64,
     norm_format: u8,
     rotation_seed: u64,
-    rotation_algorithm: &[u8],
     codebook_seed: u64,
     source_mode: u8,
     radius_method: u8,
@@ -220,7 +229,13 @@ pub extern "C" fn fib_validate_report(
     whole: &mut [u64; 4],
     real: &mut [f64; 2],
 ) -> u32
-    ensures { λ r. ⌜ found r (now (whole .exit)) (now (real .exit)) ≡ crossed none (reportTest (reportFrom «restarts_reported» «iterations_reported» «training_samples_reported» «init_mse» «best_mse» «best_restart» «empty_cells_repaired» «events_used» seed) (now («report_schema» .entry)) (profileFrom «ambient_dim» «block_dim» «codebook_size» «paper_rate» «wire_index_bits» «wire_rate» «norm_format» «rotation_seed» «codebook_seed» «source_mode» «radius_method» «direction_method» restarts iterations «training_samples» «empty_cell_policy»)) ⌝ }
+    ensures { λ r. ⌜ (let report = reportFrom «restarts_reported» «iterations_reported» «training_samples_reported»
+        «init_mse» «best_mse» «best_restart» «empty_cells_repaired» «events_used» seed in
+        let profile = profileFrom «ambient_dim» «block_dim» «codebook_size» «paper_rate» «wire_index_bits» «wire_rate»
+        «norm_format» «rotation_seed» «codebook_seed» «source_mode» «radius_method» «direction_method» restarts
+        iterations «training_samples» «empty_cell_policy» in
+        found r (now (whole .exit)) (now (real .exit))
+        ≡ crossed none (reportTest report (now («report_schema» .entry)) profile)) ⌝ }
 {
     let profile = ffi_profile::profile_from(
         ambient_dim,

@@ -1,4 +1,5 @@
-// The refinement of lloyd.rs as it is called: the steps of `lloyd_steps`, with the event of each repair written to a lent row of slots.
+// The refinement of lloyd.rs as it is called: the steps of `lloyd_steps`, with the event of each repair written to a lent
+// row of slots.
 ghost use mathlib.Core.Path.{_≡_};
 ghost use lib.ListN.{length};
 ghost use Rattle.error.specs.Numbers.{completed, andThen};
@@ -10,7 +11,8 @@ use lloyd_events::LloydRepairEvent;
 use lloyd_refine::Refinement;
 use profile::FibQuantProfile;
 
-// Refinement: from the initial codebook, and from its image under each matrix, rounds of nearest codewords and updates. The codebook of the least error is narrowed to the codewords, and the events of all repairs stand in the first slots.
+// Refinement: from the initial codebook, and from its image under each matrix, rounds of nearest codewords and updates.
+// The codebook of the least error is narrowed to the codewords, and the events of all repairs stand in the first slots.
 pub fn refine_codebook(
     initial: &[f64],
     samples: &[f64],
@@ -24,11 +26,14 @@ pub fn refine_codebook(
     log2: f64,
     events: &mut [LloydRepairEvent],
 ) -> Refinement
-    ensures answer { λ r. ⌜ refinementOf r ≡ andThen (refinement (jobOf profile (now (schema .entry)) (now («rotation_algorithm» .entry)) log2 (now (initial .entry)) (now (samples .entry)) (now (matrices .entry)) (length (now (codewords .entry))) (length (now (work .entry))) (length (now (ints .entry))) (length (now (events .entry))))) (λ b. completed (reportOf (jobOf profile (now (schema .entry)) (now («rotation_algorithm» .entry)) log2 (now (initial .entry)) (now (samples .entry)) (now (matrices .entry)) (length (now (codewords .entry))) (length (now (work .entry))) (length (now (ints .entry))) (length (now (events .entry)))) b)) ⌝ }
-    ensures codewords { λ r. ⌜ now (codewords .exit) ≡ codewordsAfter (jobOf profile (now (schema .entry)) (now («rotation_algorithm» .entry)) log2 (now (initial .entry)) (now (samples .entry)) (now (matrices .entry)) (length (now (codewords .entry))) (length (now (work .entry))) (length (now (ints .entry))) (length (now (events .entry)))) (now (codewords .entry)) ⌝ }
-    ensures work { λ r. ⌜ now (work .exit) ≡ workAfter plusZero (jobOf profile (now (schema .entry)) (now («rotation_algorithm» .entry)) log2 (now (initial .entry)) (now (samples .entry)) (now (matrices .entry)) (length (now (codewords .entry))) (length (now (work .entry))) (length (now (ints .entry))) (length (now (events .entry)))) (now (work .entry)) ⌝ }
-    ensures ints { λ r. ⌜ now (ints .exit) ≡ workAfter 0 (jobOf profile (now (schema .entry)) (now («rotation_algorithm» .entry)) log2 (now (initial .entry)) (now (samples .entry)) (now (matrices .entry)) (length (now (codewords .entry))) (length (now (work .entry))) (length (now (ints .entry))) (length (now (events .entry)))) (now (ints .entry)) ⌝ }
-    ensures events { λ r. ⌜ now (events .exit) ≡ slotsAfter (jobOf profile (now (schema .entry)) (now («rotation_algorithm» .entry)) log2 (now (initial .entry)) (now (samples .entry)) (now (matrices .entry)) (length (now (codewords .entry))) (length (now (work .entry))) (length (now (ints .entry))) (length (now (events .entry)))) (now (events .entry)) ⌝ }
+    ensures { λ r. ⌜ (let j = jobOf profile (now (schema .entry)) (now («rotation_algorithm» .entry)) log2
+        (now (initial .entry)) (now (samples .entry)) (now (matrices .entry)) (length (now (codewords .entry)))
+        (length (now (work .entry))) (length (now (ints .entry))) (length (now (events .entry))) in
+        (refinementOf r ≡ andThen (refinement j) (λ b. completed (reportOf j b)))
+        × (now (codewords .exit) ≡ codewordsAfter j (now (codewords .entry)))
+        × (now (work .exit) ≡ workAfter plusZero j (now (work .entry)))
+        × (now (ints .exit) ≡ workAfter 0 j (now (ints .entry)))
+        × (now (events .exit) ≡ slotsAfter j (now (events .entry)))) ⌝ }
 {
     let size = codewords.len();
     let slots = events.len();

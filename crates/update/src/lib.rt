@@ -1,4 +1,5 @@
-// The update of lloyd.rs as it is called: the steps of `lloyd_update`, with the event of each repair written to a lent row of slots.
+// The update of lloyd.rs as it is called: the steps of `lloyd_update`, with the event of each repair written to a lent row
+// of slots.
 ghost use mathlib.Core.Path.{_≡_};
 ghost use mathlib.Core.Bool.{false, not, _&&_};
 ghost use mathlib.Core.List.{[]};
@@ -23,8 +24,12 @@ fn begin(
     t: UpdateTerms,
 ) -> Step
     ensures codebook { λ s. ⌜ now (codebook .exit) ≡ now (codebook .entry) ⌝ }
-    ensures progress { λ s. ⌜ Progress (callOf t (now (codebook .entry)) (now (samples .entry)) (now (assignments .entry)) (length (now (work .entry))) (length (now (counts .entry))) slots) [] (now (work .exit)) (now (counts .exit)) s ⌝ }
-    ensures early { λ s. ⌜ (s .begun ≡ false → (now (work .exit) ≡ now (work .entry)) × (now (counts .exit) ≡ now (counts .entry))) ⌝ }
+    ensures progress { λ s. ⌜ Progress
+        (callOf t (now (codebook .entry)) (now (samples .entry)) (now (assignments .entry))
+        (length (now (work .entry))) (length (now (counts .entry))) slots)
+        [] (now (work .exit)) (now (counts .exit)) s ⌝ }
+    ensures early { λ s. ⌜ (s .begun ≡ false →
+        (now (work .exit) ≡ now (work .entry)) × (now (counts .exit) ≡ now (counts .entry))) ⌝ }
 {
     lloyd_update::begin_update(&*codebook, samples, assignments, work, counts, slots, t)
 }
@@ -40,7 +45,8 @@ fn refused_late(s: Step) -> bool
     false
 }
 
-// One update of a codebook: each cell's mean, then the repairs of the empty cells, whose events stand in the first slots.
+// One update of a codebook: each cell's mean, then the repairs of the empty cells, whose events stand in the first
+// slots.
 pub fn update_centroids(
     codebook: &mut [f64],
     samples: &[f64],
@@ -50,11 +56,13 @@ pub fn update_centroids(
     events: &mut [LloydRepairEvent],
     t: UpdateTerms,
 ) -> Updated
-    ensures answer { λ r. ⌜ updatedOf r ≡ andThen (updateAlone (callOf t (now (codebook .entry)) (now (samples .entry)) (now (assignments .entry)) (length (now (work .entry))) (length (now (counts .entry))) (length (now (events .entry))))) (λ u. completed (length (u .events))) ⌝ }
-    ensures codebook { λ r. ⌜ now (codebook .exit) ≡ codebookAfter (callOf t (now (codebook .entry)) (now (samples .entry)) (now (assignments .entry)) (length (now (work .entry))) (length (now (counts .entry))) (length (now (events .entry)))) ⌝ }
-    ensures work { λ r. ⌜ now (work .exit) ≡ workAfter plusZero (callOf t (now (codebook .entry)) (now (samples .entry)) (now (assignments .entry)) (length (now (work .entry))) (length (now (counts .entry))) (length (now (events .entry)))) (now (work .entry)) ⌝ }
-    ensures counts { λ r. ⌜ now (counts .exit) ≡ workAfter 0 (callOf t (now (codebook .entry)) (now (samples .entry)) (now (assignments .entry)) (length (now (work .entry))) (length (now (counts .entry))) (length (now (events .entry)))) (now (counts .entry)) ⌝ }
-    ensures events { λ r. ⌜ now (events .exit) ≡ slotsAfter (callOf t (now (codebook .entry)) (now (samples .entry)) (now (assignments .entry)) (length (now (work .entry))) (length (now (counts .entry))) (length (now (events .entry)))) (now (events .entry)) ⌝ }
+    ensures { λ r. ⌜ (let c = callOf t (now (codebook .entry)) (now (samples .entry)) (now (assignments .entry))
+        (length (now (work .entry))) (length (now (counts .entry))) (length (now (events .entry))) in
+        (updatedOf r ≡ andThen (updateAlone c) (λ u. completed (length (u .events))))
+        × (now (codebook .exit) ≡ codebookAfter c)
+        × (now (work .exit) ≡ workAfter plusZero c (now (work .entry)))
+        × (now (counts .exit) ≡ workAfter 0 c (now (counts .entry)))
+        × (now (events .exit) ≡ slotsAfter c (now (events .entry)))) ⌝ }
 {
     let slots = events.len();
     let mut s = begin(codebook, samples, assignments, work, counts, slots, t);

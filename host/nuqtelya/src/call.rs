@@ -52,12 +52,11 @@ pub fn fits<T: TryFrom<u64>>(value: u64) -> Result<T, Refusal> {
     T::try_from(value).map_err(|_| Refusal::FOREIGN)
 }
 
-/// Declares an export that takes a profile's fields, after the arguments before `;` and before those after it.
+/// Declares an export that takes a profile's fields, and then these arguments.
 macro_rules! profile_export {
-    ($name:ident($($before:ident: $before_type:ty),*; $($after:ident: $after_type:ty),*)) => {
+    ($name:ident($($after:ident: $after_type:ty),*)) => {
         extern "C" {
             fn $name(
-                $($before: $before_type,)*
                 schema: *const u8,
                 schema_len: usize,
                 ambient_dim: u32,
@@ -89,9 +88,8 @@ macro_rules! profile_export {
 
 /// Calls such an export with the fields of profile `$p`.
 macro_rules! with_profile {
-    ($name:ident($($before:expr),*; $p:expr; $($after:expr),*)) => {
+    ($name:ident($p:expr; $($after:expr),*)) => {
         $name(
-            $($before,)*
             $p.schema.as_ptr(),
             $p.schema.len(),
             $p.ambient_dim,

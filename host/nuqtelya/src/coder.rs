@@ -4,7 +4,7 @@ use crate::call::{call_checked, profile_export, with_profile};
 use crate::frame::HEADER_LEN;
 use crate::{Profile, Refusal};
 
-profile_export!(fib_encode(;
+profile_export!(fib_encode(
     matrix: *const f64,
     matrix_len: usize,
     codewords: *const f32,
@@ -17,7 +17,7 @@ profile_export!(fib_encode(;
     work_len: usize
 ));
 
-profile_export!(fib_decode(;
+profile_export!(fib_decode(
     matrix: *const f64,
     matrix_len: usize,
     codewords: *const f32,
@@ -40,7 +40,7 @@ pub fn encode(
     work: &mut [f64],
 ) -> Result<(), Refusal> {
     call_checked(|whole, real| unsafe {
-        with_profile!(fib_encode(;
+        with_profile!(fib_encode(
             profile;
             matrix.as_ptr(),
             matrix.len(),
@@ -68,7 +68,7 @@ pub fn decode(
     work: &mut [f64],
 ) -> Result<(), Refusal> {
     call_checked(|whole, real| unsafe {
-        with_profile!(fib_decode(;
+        with_profile!(fib_decode(
             profile;
             matrix.as_ptr(),
             matrix.len(),

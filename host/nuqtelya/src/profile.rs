@@ -47,7 +47,7 @@ pub struct Profile<'a> {
     pub empty_cell_policy: u8,
 }
 
-profile_export!(fib_validate_profile(;));
+profile_export!(fib_validate_profile());
 
 extern "C" {
     // The result in whole[0].
@@ -116,7 +116,7 @@ impl Profile<'static> {
 impl Profile<'_> {
     /// All checks of a profile.
     pub fn validate(&self) -> Result<(), Refusal> {
-        call_checked(|whole, real| unsafe { with_profile!(fib_validate_profile(; self; whole, real)) })
+        call_checked(|whole, real| unsafe { with_profile!(fib_validate_profile(self; whole, real)) })
     }
 
     /// The blocks of a vector: d / k.

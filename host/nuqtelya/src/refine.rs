@@ -1,11 +1,11 @@
 //! Training: Lloyd's rounds over several restarts, and the report of a training.
 
-use crate::call::{call, call_checked, fits, profile_export, with_profile};
+use crate::call::{call, call_checked, fits, profile_export, with_profile, Real, Whole};
 use crate::update::{Event, MAX_EVENT_SLOTS};
 use crate::{Profile, Refusal};
 
 // init_mse and best_mse in `real`, the other members of the report in `report`; a refusal leaves them as they were.
-profile_export!(fib_refine(;
+profile_export!(fib_refine(
     initial: *const f64,
     initial_len: usize,
     samples: *const f64,
@@ -23,19 +23,40 @@ profile_export!(fib_refine(;
     report: &mut [u64; 7]
 ));
 
-profile_export!(fib_validate_report(
-    report_schema: *const u8,
-    report_schema_len: usize,
-    restarts_reported: u32,
-    iterations_reported: u32,
-    training_samples_reported: u32,
-    init_mse: f64,
-    best_mse: f64,
-    best_restart: u32,
-    empty_cells_repaired: u32,
-    events_used: u32,
-    seed: u64;
-));
+extern "C" {
+    // A profile's fields without its texts and log2, which the test of a report does not ask for.
+    fn fib_validate_report(
+        report_schema: *const u8,
+        report_schema_len: usize,
+        restarts_reported: u32,
+        iterations_reported: u32,
+        training_samples_reported: u32,
+        init_mse: f64,
+        best_mse: f64,
+        best_restart: u32,
+        empty_cells_repaired: u32,
+        events_used: u32,
+        seed: u64,
+        ambient_dim: u32,
+        block_dim: u32,
+        codebook_size: u32,
+        paper_rate: f64,
+        wire_index_bits: u8,
+        wire_rate: f64,
+        norm_format: u8,
+        rotation_seed: u64,
+        codebook_seed: u64,
+        source_mode: u8,
+        radius_method: u8,
+        direction_method: u8,
+        restarts: u32,
+        iterations: u32,
+        training_samples: u32,
+        empty_cell_policy: u8,
+        whole: Whole,
+        real: Real,
+    ) -> u32;
+}
 
 /// The schema that a report must name.
 pub const REPORT_SCHEMA: &[u8] = b"lloyd_report_v1";
@@ -61,7 +82,7 @@ impl Report {
     /// Whether a report of this schema fits the profile's settings and is sound in itself.
     pub fn validate(&self, schema: &[u8], profile: &Profile) -> Result<(), Refusal> {
         call_checked(|whole, real| unsafe {
-            with_profile!(fib_validate_report(
+            fib_validate_report(
                 schema.as_ptr(),
                 schema.len(),
                 self.restarts,
@@ -72,11 +93,26 @@ impl Report {
                 self.best_restart,
                 self.empty_cells_repaired,
                 self.events_used,
-                self.seed;
-                profile;
+                self.seed,
+                profile.ambient_dim,
+                profile.block_dim,
+                profile.codebook_size,
+                profile.paper_rate,
+                profile.wire_index_bits,
+                profile.wire_rate,
+                profile.norm_format,
+                profile.rotation_seed,
+                profile.codebook_seed,
+                profile.source_mode,
+                profile.radius_method,
+                profile.direction_method,
+                profile.restarts,
+                profile.iterations,
+                profile.training_samples,
+                profile.empty_cell_policy,
                 whole,
-                real
-            ))
+                real,
+            )
         })
     }
 }
@@ -98,7 +134,7 @@ pub fn refine(
 ) -> Result<Report, Refusal> {
     let mut report = [u64::MAX; 7];
     let answer = call((0, 2), |whole, real| unsafe {
-        with_profile!(fib_refine(;
+        with_profile!(fib_refine(
             profile;
             initial.as_ptr(),
             initial.len(),

@@ -39,7 +39,7 @@ use denote.Triple.Spec.{Meets, tripleOf}
 use denote.Triple.Statement.{Contract, Triple}
 use denote.Triple.Clauses.{Lasts, lasts}
 use denote.Triple.Table.{entered, cited}
-use denote.Triple.Walked.{Stays, stay-dropped, gave-slice, gave-ref, walkOf, goes-dropped, goes-gave-slice, goes-gave-ref, Walks, ends-at, walked, walk-meets}
+use denote.Triple.Walked.{says, Stays, stay-dropped, gave-slice, gave-ref, walkOf, goes-dropped, goes-gave-slice, goes-gave-ref, Walks, ends-at, walked, walk-meets}
 use denote.Exit.{yes}
 use Rattle.error.specs.Numbers.{Outcome, completed, andThen}
 use Rattle.ieee.specs.Sum.{plusZero}
@@ -49,7 +49,7 @@ use Rattle.profile.proofs.FibQuantProfile.Laws as P′
 use Rattle.lloyd_events.specs.declared.LloydRepairEvent.{LloydRepairEvent as Event}
 use Rattle.lloyd_events.proofs.LloydRepairEvent as E
 use Rattle.lloyd_events.proofs.Args.{Arg, plainA, lfts, shares, args, machs, Calling, called, unasked}
-use Rattle.lloyd_events.proofs.Claims.{All, all-shown, says-all}
+use Rattle.lloyd_events.proofs.Claims.{All, all-shown}
 use Rattle.lloyd_events.proofs.Lent.{Does, does, recell, var}
 use Rattle.lloyd_events.proofs.Locals.{takes, freed}
 use Rattle.lloyd_refine.specs.declared.LloydReport.{LloydReport}
@@ -191,14 +191,14 @@ module _ {M : Type 1} (𝓤 : URA M) (H : Heap 𝓤) (A : Atoms 𝓤) (W : Given
   abbrev Kept : Type 0
   Kept = Lasts refine.ended (to-refine .0 .0) (to-refine .0 .3)
 
-  abbrev Trains : Refinement → Kept → List (Type 0)
-  Trains r ws = (refinementOf r ≡ outcome) ∷ (ws .1 .1 .1 .0 ≡ codewordsAfter job (cw .now)) ∷ (ws .1 .1 .1 .1 .0 ≡ workAfter plusZero job (wk .now)) ∷ (ws .1 .1 .1 .1 .1 .0 ≡ workAfter 0 job (ct .now)) ∷ (ws .1 .1 .1 .1 .1 .1 .1 .1 .1 .1 .0 ≡ slotsAfter job (ev .now)) ∷ []
+  abbrev Trains : Refinement → Kept → Type 0
+  Trains r ws = (refinementOf r ≡ outcome) × (ws .1 .1 .1 .0 ≡ codewordsAfter job (cw .now)) × (ws .1 .1 .1 .1 .0 ≡ workAfter plusZero job (wk .now)) × (ws .1 .1 .1 .1 .1 .0 ≡ workAfter 0 job (ct .now)) × (ws .1 .1 .1 .1 .1 .1 .1 .1 .1 .1 .0 ≡ slotsAfter job (ev .now))
 
   abbrev kept-back : Kept → List (Item 𝓤)
   kept-back = back 𝓤 H A W C fm refine.ended (refine.clauses 𝓤 H A mem run) to-refine
 
-  refine-does : Does W C #refine (Refines 𝓤 H A mem run .args to-refine) (raw (Refines 𝓤 H A mem run .pre to-refine) ∷ []) (Refinement × Kept) (λ x. Is U.the-row (x .0) (answer-val (x .0) ∷ []) × All (Trains (x .0) (x .1))) (λ x. answer-val (x .0)) (λ x. kept-back (x .1))
-  refine-does = handed 𝓤 H A W C fm refine.ended (refine.clauses 𝓤 H A mem run) to-refine (met .refine-met) answer-val (λ r v is. ap only (EL.tells U.the-type U′.the-laws r (v ∷ []) is)) (λ r ws. All (Trains r ws)) (λ r ws. all-shown 𝓤 (Trains r ws))
+  refine-does : Does W C #refine (Refines 𝓤 H A mem run .args to-refine) (raw (Refines 𝓤 H A mem run .pre to-refine) ∷ []) (Refinement × Kept) (λ x. Is U.the-row (x .0) (answer-val (x .0) ∷ []) × Trains (x .0) (x .1)) (λ x. answer-val (x .0)) (λ x. kept-back (x .1))
+  refine-does = handed 𝓤 H A W C fm refine.ended (refine.clauses 𝓤 H A mem run) to-refine (met .refine-met) answer-val (λ r v is. ap only (EL.tells U.the-type U′.the-laws r (v ∷ []) is)) Trains (λ r ws. id⊢ 𝓤 _)
 
   -- ---- the call of `put_refined`
   module _ (answer : Refinement) (answer-is : Is U.the-row answer (answer-val answer ∷ [])) where
@@ -264,7 +264,7 @@ module _ {M : Type 1} (𝓤 : URA M) (H : Heap 𝓤) (A : Atoms 𝓤) (W : Given
       move ! (0 ∷ 2 ∷ []) $ join ! $ move ! (1 ∷ 0 ∷ []) $ join ! $ nothing ! $ move ! (1 ∷ 0 ∷ []) $ done !
 
   -- ---- the end
-  exits : (answer : Refinement) (is : Is U.the-row answer (answer-val answer ∷ [])) (ws : Kept) → All (Trains answer ws) → (r : ℕ) → r < 2 ^ 32 → (vs : Said answer is) → All (Puts answer is r vs)
+  exits : (answer : Refinement) (is : Is U.the-row answer (answer-val answer ∷ [])) (ws : Kept) → Trains answer ws → (r : ℕ) → r < 2 ^ 32 → (vs : Said answer is) → All (Puts answer is r vs)
       → ent 𝓤 (sep 𝓤 (⋆ 𝓤 H A (said-back answer is vs)) (⋆ 𝓤 H A (kept-back ws))) (Post (vint w32 r))
   exits answer is ws f r r-fits vs g =
       qed W ((raw (all 𝓤 room-toks) ⊛ ‵ (put-lasts vs)) ∷ (raw (all 𝓤 (slice-toks ++ (text-toks ++ event-toks))) ⊛ ‵ (refine-lasts ws)) ∷ []) ∵ split ! $ move ! (2 ∷ []) $ split ! $ move ! (0 ∷ 2 ∷ []) $
@@ -276,7 +276,7 @@ module _ {M : Type 1} (𝓤 : URA M) (H : Heap 𝓤) (A : Atoms 𝓤) (W : Given
       -- [events; true; counts; work; codewords; the tokens; what is said of the room]
       move ! (6 ∷ []) $ fsplit ! $ drop ! $ fsplit ! $ move ! (1 ∷ []) $ fsplit ! $ move ! (1 ∷ []) $ fsplit ! $
       suffices ! _ (ends-at 𝓤 H A fib.ended stayed (fib.clauses 𝓤 H A mem run) W y (vint w32 r) r (tt, (tt, (tt, (tt, (tt, (tt, (tt, (tt, (tt, (tt, (tt, (tt, (tt, (tt, (tt, (tt, (tt, (tt, (tt, (tt, (tt, (tt, (ws .1 .1 .1 .0, (ws .1 .1 .1 .1 .0, (ws .1 .1 .1 .1 .1 .0, (ws .1 .1 .1 .1 .1 .1 .1 .1 .1 .1 .0, (vs .1 .0, (vs .1 .1 .0, (vs .1 .1 .1 .0, tt))))))))))))))))))))))))))))) (tt, (tt, (tt, (tt, (tt, (tt, (tt, (tt, (tt, (tt, (tt, (tt, (tt, (tt, (tt, (tt, (tt, (tt, (tt, (tt, (tt, (tt, (e₁, (e₂, (e₃, (e₄, (tt, (tt, (tt, tt)))))))))))))))))))))))))))))) $
-      says-all ! ((found r (vs .1 .1 .0) (vs .1 .1 .1 .0) ≡ crossed errorsIn outcome) ∷ (vs .1 .0 ≡ reportAfter outcome (rep .now)) ∷ (ws .1 .1 .1 .0 ≡ codewordsAfter job (cw .now)) ∷ (ws .1 .1 .1 .1 .0 ≡ workAfter plusZero job (wk .now)) ∷ (ws .1 .1 .1 .1 .1 .0 ≡ workAfter 0 job (ct .now)) ∷ (ws .1 .1 .1 .1 .1 .1 .1 .1 .1 .1 .0 ≡ slotsAfter job (ev .now)) ∷ []) (g .0 ∙ ap (crossed errorsIn) (f .0), (g .1 ∙ ap (λ (o : Outcome LloydReport). reportAfter o (rep .now)) (f .0), f .1)) $
+      says ! (g .0 ∙ ap (crossed errorsIn) (f .0), g .1 ∙ ap (λ (o : Outcome LloydReport). reportAfter o (rep .now)) (f .0), f .1, f .2, f .3, f .4) $
       -- [real; true; whole; report; events; true; counts; work; codewords; the tokens]
       move ! (9 ∷ []) $ frame ! $ fjoin ! $ move ! (1 ∷ 0 ∷ []) $ fjoin ! $ move ! (1 ∷ 0 ∷ []) $ fjoin ! $ move ! (1 ∷ 0 ∷ []) $ fjoin ! $ move ! (2 ∷ 0 ∷ []) $ fjoin ! $ move ! (2 ∷ 0 ∷ []) $ fjoin ! $ move ! (2 ∷ 0 ∷ []) $ fjoin ! $
       nothing ! $ fjoin ! $ nothing ! $ fjoin ! $ nothing ! $ fjoin ! $ nothing ! $ fjoin ! $ nothing ! $ fjoin ! $ nothing ! $ fjoin ! $ nothing ! $ fjoin ! $ nothing ! $ fjoin ! $ nothing ! $ fjoin ! $ nothing ! $ fjoin ! $ nothing ! $ fjoin ! $

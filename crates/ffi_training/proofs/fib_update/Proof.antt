@@ -37,14 +37,13 @@ use denote.Triple.Spec.{Meets, tripleOf}
 use denote.Triple.Statement.{Contract, Triple}
 use denote.Triple.Clauses.{Lasts, lasts}
 use denote.Triple.Table.{entered, cited}
-use denote.Triple.Walked.{Stays, stay-dropped, gave-slice, gave-ref, walkOf, goes-dropped, goes-gave-slice, goes-gave-ref, Walks, ends-at, walked, walk-meets}
+use denote.Triple.Walked.{says, Stays, stay-dropped, gave-slice, gave-ref, walkOf, goes-dropped, goes-gave-slice, goes-gave-ref, Walks, ends-at, walked, walk-meets}
 use denote.Exit.{yes}
 use Rattle.error.specs.Numbers.{completed, andThen}
 use Rattle.ieee.specs.Sum.{plusZero}
 use Rattle.lloyd_events.specs.declared.LloydRepairEvent.{LloydRepairEvent as Event}
 use Rattle.lloyd_events.proofs.LloydRepairEvent as E
 use Rattle.lloyd_events.proofs.Args.{Arg, plainA, lfts, shares, args, machs, Calling, called, unasked}
-use Rattle.lloyd_events.proofs.Claims.{All, all-shown, says-all}
 use Rattle.lloyd_events.proofs.Lent.{Does, does, recell, var}
 use Rattle.lloyd_events.proofs.Locals.{takes, freed}
 use Rattle.lloyd_update.specs.declared.Updated.{Updated}
@@ -163,14 +162,14 @@ module _ {M : Type 1} (𝓤 : URA M) (H : Heap 𝓤) (A : Atoms 𝓤) (W : Given
   abbrev Kept : Type 0
   Kept = Lasts update.ended (to-update .0 .0) (to-update .0 .3)
 
-  abbrev Updates : Updated → Kept → List (Type 0)
-  Updates r ws = (updatedOf r ≡ andThen (updateAlone call) (λ u. completed (length (u .events)))) ∷ (ws .0 ≡ codebookAfter call) ∷ (ws .1 .1 .1 .0 ≡ workAfter plusZero call (wk .now)) ∷ (ws .1 .1 .1 .1 .0 ≡ workAfter 0 call (ct .now)) ∷ (ws .1 .1 .1 .1 .1 .0 ≡ slotsAfter call (ev .now)) ∷ []
+  abbrev Updates : Updated → Kept → Type 0
+  Updates r ws = (updatedOf r ≡ andThen (updateAlone call) (λ u. completed (length (u .events)))) × (ws .0 ≡ codebookAfter call) × (ws .1 .1 .1 .0 ≡ workAfter plusZero call (wk .now)) × (ws .1 .1 .1 .1 .0 ≡ workAfter 0 call (ct .now)) × (ws .1 .1 .1 .1 .1 .0 ≡ slotsAfter call (ev .now))
 
   abbrev kept-back : Kept → List (Item 𝓤)
   kept-back = back 𝓤 H A W C fm update.ended (update.clauses 𝓤 H A mem run) to-update
 
-  update-does : Does W C #update (Update 𝓤 H A mem run .args to-update) (raw (Update 𝓤 H A mem run .pre to-update) ∷ []) (Updated × Kept) (λ x. Is U.the-row (x .0) (answer-val (x .0) ∷ []) × All (Updates (x .0) (x .1))) (λ x. answer-val (x .0)) (λ x. kept-back (x .1))
-  update-does = handed 𝓤 H A W C fm update.ended (update.clauses 𝓤 H A mem run) to-update (met .update-met) answer-val (λ r v is. ap only (EL.tells U.the-type U′.the-laws r (v ∷ []) is)) (λ r ws. All (Updates r ws)) (λ r ws. all-shown 𝓤 (Updates r ws))
+  update-does : Does W C #update (Update 𝓤 H A mem run .args to-update) (raw (Update 𝓤 H A mem run .pre to-update) ∷ []) (Updated × Kept) (λ x. Is U.the-row (x .0) (answer-val (x .0) ∷ []) × Updates (x .0) (x .1)) (λ x. answer-val (x .0)) (λ x. kept-back (x .1))
+  update-does = handed 𝓤 H A W C fm update.ended (update.clauses 𝓤 H A mem run) to-update (met .update-met) answer-val (λ r v is. ap only (EL.tells U.the-type U′.the-laws r (v ∷ []) is)) Updates (λ r ws. id⊢ 𝓤 _)
 
   -- ---- the call of `put_updated`
   module _ (answer : Updated) (answer-is : Is U.the-row answer (answer-val answer ∷ [])) where
@@ -227,7 +226,7 @@ module _ {M : Type 1} (𝓤 : URA M) (H : Heap 𝓤) (A : Atoms 𝓤) (W : Given
       move ! (0 ∷ 2 ∷ []) $ join ! $ move ! (1 ∷ 0 ∷ []) $ join ! $ nothing ! $ move ! (1 ∷ 0 ∷ []) $ done !
 
   -- ---- the end
-  exits : (answer : Updated) (is : Is U.the-row answer (answer-val answer ∷ [])) (ws : Kept) → All (Updates answer ws) → (r : ℕ) → r < 2 ^ 32 → (vs : Said answer is) → Puts answer is r vs
+  exits : (answer : Updated) (is : Is U.the-row answer (answer-val answer ∷ [])) (ws : Kept) → Updates answer ws → (r : ℕ) → r < 2 ^ 32 → (vs : Said answer is) → Puts answer is r vs
       → ent 𝓤 (sep 𝓤 (⋆ 𝓤 H A (said-back answer is vs)) (⋆ 𝓤 H A (kept-back ws))) (Post (vint w32 r))
   exits answer is ws f r r-fits vs g =
       qed W ((raw (all 𝓤 last-toks) ⊛ ‵ (put-lasts vs)) ∷ (raw (all 𝓤 first-toks) ⊛ ‵ (update-lasts ws)) ∷ []) ∵ split ! $ move ! (2 ∷ []) $ split ! $ move ! (0 ∷ 2 ∷ []) $
@@ -239,7 +238,7 @@ module _ {M : Type 1} (𝓤 : URA M) (H : Heap 𝓤) (A : Atoms 𝓤) (W : Given
       -- [events; true; counts; work; codebook; the tokens; what is said of the room]
       move ! (6 ∷ []) $ fsplit ! $ drop ! $ fsplit ! $ move ! (1 ∷ []) $ fsplit ! $
       suffices ! _ (ends-at 𝓤 H A fib.ended stayed (fib.clauses 𝓤 H A mem run) W y (vint w32 r) r (ws .0, (tt, (tt, (ws .1 .1 .1 .0, (ws .1 .1 .1 .1 .0, (ws .1 .1 .1 .1 .1 .0, (tt, (tt, (tt, (tt, (tt, (vs .1 .0, (vs .1 .1 .0, tt))))))))))))) (e₀, (tt, (tt, (e₃, (e₄, (e₅, (tt, (tt, (tt, (tt, (tt, (tt, (tt, tt)))))))))))))) $
-      says-all ! ((found r (vs .1 .0) (vs .1 .1 .0) ≡ crossed oneWhole (andThen (updateAlone call) (λ u. completed (length (u .events))))) ∷ (ws .0 ≡ codebookAfter call) ∷ (ws .1 .1 .1 .0 ≡ workAfter plusZero call (wk .now)) ∷ (ws .1 .1 .1 .1 .0 ≡ workAfter 0 call (ct .now)) ∷ (ws .1 .1 .1 .1 .1 .0 ≡ slotsAfter call (ev .now)) ∷ []) (g ∙ ap (crossed oneWhole) (f .0), f .1) $
+      says ! (g ∙ ap (crossed oneWhole) (f .0), f .1, f .2, f .3, f .4) $
       -- [real; true; whole; events; true; counts; work; codebook; the tokens]
       move ! (8 ∷ []) $ frame ! $ fjoin ! $ move ! (1 ∷ 0 ∷ []) $ fjoin ! $ nothing ! $ fjoin ! $ nothing ! $ fjoin ! $ nothing ! $ fjoin ! $ nothing ! $ fjoin ! $ nothing ! $ fjoin ! $
       move ! (1 ∷ 0 ∷ []) $ fjoin ! $ move ! (2 ∷ 0 ∷ []) $ fjoin ! $ move ! (2 ∷ 0 ∷ []) $ fjoin ! $ nothing ! $ fjoin ! $ nothing ! $ fjoin ! $ move ! (2 ∷ 0 ∷ []) $ fjoin ! $

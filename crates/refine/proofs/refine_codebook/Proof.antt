@@ -51,7 +51,7 @@ use Rattle.lloyd_events.specs.Events.{zeroEvent}
 use Rattle.lloyd_events.proofs.LloydRepairEvent as E
 use Rattle.lloyd_events.proofs.LloydRepairEvent.Laws as E′
 use Rattle.lloyd_events.proofs.Args.{Arg, lendA, showA, plainA, besideA, Ends, passed, bufs, lfts, shares, args, machs, toks, owned-by, own-lfts, own-shares, own-args, own-toks, own-all, enters, leaves as leaves-with, Calling, called, called-all, unasked}
-use Rattle.lloyd_events.proofs.Claims.{All, says-all}
+use Rattle.lloyd_events.proofs.Claims.{All}
 use Rattle.lloyd_events.proofs.Lent.{Slice, slice-at, machine, has, shows-it, does, does-last, recell, var}
 use Rattle.lloyd_events.proofs.Locals.{Places, env, cells, blank, holds, dies, takes, freed}
 use Rattle.lloyd_events.proofs.Log.{logged, log-more, length-more}
@@ -174,8 +174,8 @@ module _ {M : Type 1} (𝓤 : URA M) (H : Heap 𝓤) (A : Atoms 𝓤) (W : Given
   Untouched w n evs = (w ≡ wk₀) × ((n ≡ nt₀) × (evs ≡ []))
 
   -- what the contract says of a job
-  abbrev Says : Job → List Float → List Float → List ℕ → List Event → Refinement → List (Type 0)
-  Says j c w n es r = (refinementOf r ≡ andThen (refinement j) (λ b. completed (reportOf j b))) ∷ (c ≡ codewordsAfter j cw₀) ∷ (w ≡ workAfter plusZero j wk₀) ∷ (n ≡ workAfter 0 j nt₀) ∷ (es ≡ slotsAfter j ev₀) ∷ []
+  abbrev Says : Job → List Float → List Float → List ℕ → List Event → Refinement → Type 0
+  Says j c w n es r = (refinementOf r ≡ andThen (refinement j) (λ b. completed (reportOf j b))) × (c ≡ codewordsAfter j cw₀) × (w ≡ workAfter plusZero j wk₀) × (n ≡ workAfter 0 j nt₀) × (es ≡ slotsAfter j ev₀)
 
   -- what `next_refine` carries over
   abbrev Carried : List Float → List ℕ → RefineStep → List Float → List ℕ → RefineStep → Type 0
@@ -291,10 +291,10 @@ module _ {M : Type 1} (𝓤 : URA M) (H : Heap 𝓤) (A : Atoms 𝓤) (W : Given
         (λ νs. qed W (raw (toks 𝓤 H A finish-args νs) ∷ raw (owned-by 𝓤 H A finish-args νs) ∷ []) ∵ says ! long $ done !) (λ νs v. id⊢ 𝓤 _)
 
   exits : (r : Refinement) → Is R.the-row r (answer-val r ∷ []) → (c w : List Float) (n : List ℕ) (es : List Event) → length c ≡ cw .count → length w ≡ wk .count → length n ≡ nt .count → length es ≡ ev .count
-      → All (Says job c w n es r) → ent 𝓤 (⋆ 𝓤 H A (Bufs c w n es)) (Post (answer-val r))
+      → Says job c w n es r → ent 𝓤 (⋆ 𝓤 H A (Bufs c w n es)) (Post (answer-val r))
   exits r r-is c w n es n-c n-w n-n n-e u =
       qed W (raw (⋆ 𝓤 H A (Bufs c w n es)) ∷ []) ∵ suffices ! _ (ends-at 𝓤 H A refine.ended stayed (refine.clauses 𝓤 H A mem run) W y (answer-val r) r (tt, (tt, (tt, (c, (w, (n, (tt, (tt, (tt, (tt, (es, tt))))))))))) (tt, (tt, (tt, (n-c ∙ sym n-cw, (n-w ∙ sym n-wk, (n-n ∙ sym n-nt, (tt, (tt, (tt, (tt, (n-e ∙ sym n-ev, tt)))))))))))) $
-      says-all ! (Says (jobAt (length cw₀) (length ev₀)) c w n es r) (subst (λ (k : ℕ). All (Says (jobAt k (length ev₀)) c w n es r)) (sym n-cw) (subst (λ (k : ℕ). All (Says (jobAt (cw .count) k) c w n es r)) (sym n-ev) u)) $
+      says ! (subst (λ (k : ℕ). Says (jobAt k (length ev₀)) c w n es r) (sym n-cw) (subst (λ (k : ℕ). Says (jobAt (cw .count) k) c w n es r) (sym n-ev) u)) $
       use1 W (raw (own-toks 𝓤 H A W (params c w n es)) ⊛ raw (own-all 𝓤 H A W (params c w n es))) (leaves-with 𝓤 H A W (params c w n es) (n-c, (n-w, (n-n, (profile-own, (log-own, (n-e, tt))))))) $ split ! $ frame ! $
       use0 W (‵ (R.the-row .own r (answer-val r ∷ []))) (EL.makes R.the-type R′.the-plain 𝓤 H A r _ r-is) $ move ! (1 ∷ []) $ done !
 
@@ -392,19 +392,13 @@ module _ {M : Type 1} (𝓤 : URA M) (H : Heap 𝓤) (A : Atoms 𝓤) (W : Given
         forget ! 1 refl $ forget ! 2 refl $ forget ! 3 refl $ forget ! 4 refl $ forget ! 5 refl $ forget ! 6 refl $ forget ! 7 refl $ forget ! 8 refl $ forget ! 9 refl $ forget ! 10 refl $ forget ! 11 refl $ forget ! 12 refl $ forget ! 13 refl $ forget ! 14 refl $ forget ! 15 refl $ forget ! 16 refl $ forget ! 33 refl $ forget ! 34 refl $ forget ! 35 refl $ forget ! 36 refl $ forget ! 37 refl $ forget ! 38 refl $
         by ! (freed 𝓤 H A W ls p (⋆ 𝓤 H A (Bufs (x .1 .0) (x .1 .1 .0) (x .1 .1 .1 .0) es)) (Post (answer-val (x .0))) (exits (x .0) (f .0) (x .1 .0) (x .1 .1 .0) (x .1 .1 .1 .0) es (f .1 .0 .0) (f .1 .0 .1 .0) (f .1 .0 .1 .1 .0) n-e (ended x (f .1 .1)))))
       where
-        ended : (x : Refinement × Ends (finish-args (u .w) (u .n-w) (u .n) (u .n-n) es n-e (u .s) (u .s-is))) → All (Finished (u .w) (u .n-w) (u .n) (u .n-n) es n-e (u .s) (u .s-is) (x .0) (x .1)) → All (Says job (x .1 .0) (x .1 .1 .0) (x .1 .1 .1 .0) es (x .0))
+        ended : (x : Refinement × Ends (finish-args (u .w) (u .n-w) (u .n) (u .n-n) es n-e (u .s) (u .s-is))) → All (Finished (u .w) (u .n-w) (u .n) (u .n-n) es n-e (u .s) (u .s-is) (x .0) (x .1)) → Says job (x .1 .0) (x .1 .1 .0) (x .1 .1 .1 .0) es (x .0)
         ended x g = (
           answered job (u .evs) (u .w) (u .s) last (x .0) (g .0),
-          (
-            g .1 .0 ∙ codewords-are job (u .evs) (u .w) (u .s) last cw₀ n-cw,
-            (
-              g .1 .1 .0 ∙ work-is job (u .evs) (u .w) (u .s) last plusZero (u .w) wk₀ (same-work u) (λ b. u .early b .0),
-              (
-                g .1 .1 .1 ∙ work-is job (u .evs) (u .w) (u .s) last 0 (u .n) nt₀ (u .n-n ∙ sym n-nt) (λ b. u .early b .1 .0),
-                log ∙ slots-are job (u .evs) (u .w) (u .s) last ev₀ (λ b. u .early b .1 .1),
-              ),
-            ),
-          ),
+          g .1 .0 ∙ codewords-are job (u .evs) (u .w) (u .s) last cw₀ n-cw,
+          g .1 .1 .0 ∙ work-is job (u .evs) (u .w) (u .s) last plusZero (u .w) wk₀ (same-work u) (λ b. u .early b .0),
+          g .1 .1 .1 ∙ work-is job (u .evs) (u .w) (u .s) last 0 (u .n) nt₀ (u .n-n ∙ sym n-nt) (λ b. u .early b .1 .0),
+          log ∙ slots-are job (u .evs) (u .w) (u .s) last ev₀ (λ b. u .early b .1 .1),
         )
           where
             last : Ended job (u .evs) (u .w) (u .s)

@@ -45,7 +45,7 @@ use Rattle.lloyd_events.specs.Events.{zeroEvent}
 use Rattle.lloyd_events.proofs.LloydRepairEvent as E
 use Rattle.lloyd_events.proofs.LloydRepairEvent.Laws as E′
 use Rattle.lloyd_events.proofs.Args.{Arg, lendA, showA, plainA, besideA, Ends, passed, bufs, lfts, shares, args, machs, toks, owned-by, own-lfts, own-shares, own-args, own-toks, own-all, enters, leaves as leaves-with, Calling, called, called-all, unasked}
-use Rattle.lloyd_events.proofs.Claims.{All, says-all}
+use Rattle.lloyd_events.proofs.Claims.{All}
 use Rattle.lloyd_events.proofs.Lent.{Slice, slice-at, machine, has, shows-it, does, does-last, recell, var}
 use Rattle.lloyd_events.proofs.Locals.{Places, env, cells, blank, holds, dies, takes, freed}
 use Rattle.lloyd_events.proofs.Log.{logged, log-more, length-more}
@@ -166,8 +166,8 @@ module _ {M : Type 1} (𝓤 : URA M) (H : Heap 𝓤) (A : Atoms 𝓤) (W : Given
   Untouched w n evs = (w ≡ wk₀) × ((n ≡ ct₀) × (evs ≡ []))
 
   -- what the contract says of a call
-  abbrev Says : Call → List Float → List Float → List ℕ → List Event → Updated → List (Type 0)
-  Says k c w n es r = (updatedOf r ≡ andThen (updateAlone k) (λ u. completed (length (u .events)))) ∷ (c ≡ codebookAfter k) ∷ (w ≡ workAfter plusZero k wk₀) ∷ (n ≡ workAfter 0 k ct₀) ∷ (es ≡ slotsAfter k ev₀) ∷ []
+  abbrev Says : Call → List Float → List Float → List ℕ → List Event → Updated → Type 0
+  Says k c w n es r = (updatedOf r ≡ andThen (updateAlone k) (λ u. completed (length (u .events)))) × (c ≡ codebookAfter k) × (w ≡ workAfter plusZero k wk₀) × (n ≡ workAfter 0 k ct₀) × (es ≡ slotsAfter k ev₀)
 
   -- what `next_repair` carries over, after a repair whose event is the last of `used`
   abbrev Carried : List Float → List ℕ → ℕ → Step → List Float → List ℕ → Step → Type 0
@@ -275,10 +275,10 @@ module _ {M : Type 1} (𝓤 : URA M) (H : Heap 𝓤) (A : Atoms 𝓤) (W : Given
         (λ νs. qed W (raw (toks 𝓤 H A finish-args νs) ∷ raw (owned-by 𝓤 H A finish-args νs) ∷ []) ∵ says ! long $ done !) (λ νs v. id⊢ 𝓤 _)
 
   exits : (r : Updated) → Is U.the-row r (answer-val r ∷ []) → (c w : List Float) (n : List ℕ) (es : List Event) → length c ≡ cb .count → length w ≡ wk .count → length n ≡ ct .count → length es ≡ ev .count
-      → All (Says call c w n es r) → ent 𝓤 (⋆ 𝓤 H A (Bufs c w n es)) (Post (answer-val r))
+      → Says call c w n es r → ent 𝓤 (⋆ 𝓤 H A (Bufs c w n es)) (Post (answer-val r))
   exits r r-is c w n es n-c n-w n-n n-e u =
       qed W (raw (⋆ 𝓤 H A (Bufs c w n es)) ∷ []) ∵ suffices ! _ (ends-at 𝓤 H A update.ended stayed (update.clauses 𝓤 H A mem run) W y (answer-val r) r (c, (tt, (tt, (w, (n, (es, (tt, tt))))))) (n-c ∙ sym n-cb, (tt, (tt, (n-w ∙ sym n-wk, (n-n ∙ sym n-ct, (n-e ∙ sym n-ev, (tt, tt)))))))) $
-      says-all ! (Says (callOf t cb₀ xs ps (length wk₀) (length ct₀) (length ev₀)) c w n es r) (subst (λ (k : ℕ). All (Says (callOf t cb₀ xs ps (length wk₀) (length ct₀) k) c w n es r)) (sym n-ev) u) $
+      says ! (subst (λ (k : ℕ). Says (callOf t cb₀ xs ps (length wk₀) (length ct₀) k) c w n es r) (sym n-ev) u) $
       use1 W (raw (own-toks 𝓤 H A W (params c w n es)) ⊛ raw (own-all 𝓤 H A W (params c w n es))) (leaves-with 𝓤 H A W (params c w n es) (n-c, (n-w, (n-n, (n-e, (terms-own, tt)))))) $ split ! $ frame ! $
       use0 W (‵ (U.the-row .own r (answer-val r ∷ []))) (EL.makes U.the-type U′.the-plain 𝓤 H A r _ r-is) $ move ! (1 ∷ []) $ done !
 
@@ -378,19 +378,13 @@ module _ {M : Type 1} (𝓤 : URA M) (H : Heap 𝓤) (A : Atoms 𝓤) (W : Given
         forget ! 1 refl $ forget ! 2 refl $ forget ! 3 refl $ forget ! 4 refl $ forget ! 5 refl $ forget ! 6 refl $ forget ! 7 refl $ forget ! 8 refl $ forget ! 9 refl $ forget ! 10 refl $ forget ! 11 refl $ forget ! 30 refl $ forget ! 31 refl $ forget ! 32 refl $ forget ! 33 refl $ forget ! 34 refl $ forget ! 35 refl $
         by ! (freed 𝓤 H A W ls p (⋆ 𝓤 H A (Bufs (x .1 .0) (x .1 .1 .0) (x .1 .1 .1 .0) es)) (Post (answer-val (x .0))) (exits (x .0) (f .0) (x .1 .0) (x .1 .1 .0) (x .1 .1 .1 .0) es (f .1 .0 .0) (f .1 .0 .1 .0) (f .1 .0 .1 .1 .0) n-e (ended x (f .1 .1)))))
       where
-        ended : (x : Updated × Ends (finish-args (u .w) (u .n-w) (u .n) (u .n-n) es n-e (u .s) (u .s-is))) → All (Finished (u .w) (u .n-w) (u .n) (u .n-n) es n-e (u .s) (u .s-is) (x .0) (x .1)) → All (Says call (x .1 .0) (x .1 .1 .0) (x .1 .1 .1 .0) es (x .0))
+        ended : (x : Updated × Ends (finish-args (u .w) (u .n-w) (u .n) (u .n-n) es n-e (u .s) (u .s-is))) → All (Finished (u .w) (u .n-w) (u .n) (u .n-n) es n-e (u .s) (u .s-is) (x .0) (x .1)) → Says call (x .1 .0) (x .1 .1 .0) (x .1 .1 .1 .0) es (x .0)
         ended x g = (
           answered call (u .evs) (u .w) (u .n) (u .s) last (x .0) (g .0),
-          (
-            g .1 .0 ∙ codebook-is call (u .evs) (u .w) (u .n) (u .s) last,
-            (
-              g .1 .1 .0 ∙ work-is call (u .evs) (u .w) (u .n) (u .s) last plusZero (u .w) wk₀ (same-work u) (λ b. u .early b .0),
-              (
-                g .1 .1 .1 ∙ work-is call (u .evs) (u .w) (u .n) (u .s) last 0 (u .n) ct₀ (u .n-n ∙ sym n-ct) (λ b. u .early b .1 .0),
-                log ∙ slots-are call (u .evs) (u .w) (u .n) (u .s) last ev₀ (λ b. u .early b .1 .1),
-              ),
-            ),
-          ),
+          g .1 .0 ∙ codebook-is call (u .evs) (u .w) (u .n) (u .s) last,
+          g .1 .1 .0 ∙ work-is call (u .evs) (u .w) (u .n) (u .s) last plusZero (u .w) wk₀ (same-work u) (λ b. u .early b .0),
+          g .1 .1 .1 ∙ work-is call (u .evs) (u .w) (u .n) (u .s) last 0 (u .n) ct₀ (u .n-n ∙ sym n-ct) (λ b. u .early b .1 .0),
+          log ∙ slots-are call (u .evs) (u .w) (u .n) (u .s) last ev₀ (λ b. u .early b .1 .1),
         )
           where
             last : Ended call (u .evs) (u .w) (u .n) (u .s)
