@@ -12,11 +12,11 @@ use lib.Pow.{pow-mono}
 use lib.Ieee.{Float}
 use borrow.Author.Tests.{lt-ltb}
 use Rattle.error.specs.Numbers.{completed, whole}
+use Rattle.error.proofs.Outcomes.{passed}
 use Rattle.ieee.specs.Bounds.{Upto}
 use Rattle.ieee.proofs.Bound.{upto-mono}
 use Rattle.profile.specs.declared.EmptyCellPolicy.{EmptyCellPolicy}
 use Rattle.lloyd_search.proofs.FiniteLaw.{Bounded}
-use Rattle.lloyd_search.proofs.AnswersLaw.{passed-check}
 use Rattle.lloyd_cells.specs.Cells.{countTo, farthest}
 use Rattle.lloyd_cells.specs.Repair.{Cells, Terms, Repaired, repairTo}
 use Rattle.lloyd_cells.specs.Update.{oldDistance, means, farthestSample, failsClosed, emptyCells, updated}
@@ -36,7 +36,7 @@ module _ (t : Terms) (S : ℕ) (x : ℕ → ℕ → Float) (a : ℕ → ℕ) (ol
   -- an accepted update has made all its repairs, and leaves no cell empty
   repairs : (policy : EmptyCellPolicy) (r : Repaired) → updated t policy S x a old ≡ completed r → repairTo t far start (t .cells) ≡ completed r
   unfolding updated
-  repairs policy r h = passed-check (failsClosed policy && ltb 0 (emptyCells (start .tally) (t .cells))) 14 (whole (emptyCells (start .tally) (t .cells)) ∷ []) _ r h .1
+  repairs policy r h = passed (failsClosed policy && ltb 0 (emptyCells (start .tally) (t .cells))) 14 (whole (emptyCells (start .tally) (t .cells)) ∷ []) _ r h .1
 
   none-empty : (r : Repaired) → repairTo t far start (t .cells) ≡ completed r → (c : ℕ) → c < t .cells → 0 < r .cells .tally c
   none-empty r h = tallied-some (tallied t far start (t .cells) r (le-refl (t .cells)) h)

@@ -7,14 +7,14 @@ use lib.Dec.{eqb, leb, lit≤}
 use lib.ListN.{length, getD}
 use lib.Ieee.{Float}
 use Rattle.error.specs.Numbers.{completed, whole}
+use Rattle.error.proofs.Outcomes.{passed}
 use Rattle.ieee.specs.Bounds.{Upto}
 use Rattle.slices.specs.declared.First.the-variants.{Nowhere}
 use Rattle.slices.specs.Limit.{firstOutside}
-use Rattle.lloyd_search.specs.Answers.{codebookShaped, samplesShaped}
+use Rattle.lloyd_search.specs.Shape.{codebookShaped, samplesShaped}
 use Rattle.lloyd_search.specs.Distance.{rowOf}
-use Rattle.lloyd_search.proofs.AnswersLaw.{passed-check, passed-bounded}
 use Rattle.lloyd_search.proofs.FiniteLaw.{Bounded}
-use Rattle.lloyd_search.proofs.LimitLaw.{all-within}
+use Rattle.lloyd_search.proofs.LimitLaw.{all-within, passed-bounded}
 use Rattle.lloyd_search.proofs.Parts.{row-place}
 use Rattle.lloyd_cells.specs.Repair.{Repaired}
 use Rattle.lloyd_update.specs.Alone.{Call, updateLimit, valueChecks, updateChecks, termsOf, updateOf}
@@ -36,12 +36,12 @@ module _ (c : Call) (pass : updateChecks c ≡ completed tt) where
   values =
       let n = c .size in
       let k = c .dim in
-      let o = passed-check (not (codebookShaped n k (length (c .codebook)))) 7 (whole 1 ∷ []) _ tt pass in
-      let p = passed-check (not (samplesShaped k (length (c .samples)))) 7 (whole 2 ∷ []) _ tt (o .1) in
-      let q = passed-check (not (eqb (c .floatWork) (2 * (n * k) + 2 * n))) 7 (whole 7 ∷ []) _ tt (p .1) in
-      let r = passed-check (not (eqb (c .integerWork) n)) 7 (whole 8 ∷ []) _ tt (q .1) in
-      let s = passed-check (not (leb (c .slots) 1048576)) 7 (whole 9 ∷ []) _ tt (r .1) in
-      let t = passed-check (not (eqb (length (c .assignments)) (length (c .samples) / k))) 7 (whole 10 ∷ []) _ tt (s .1) in
+      let o = passed (not (codebookShaped n k (length (c .codebook)))) 7 (whole 1 ∷ []) _ tt pass in
+      let p = passed (not (samplesShaped k (length (c .samples)))) 7 (whole 2 ∷ []) _ tt (o .1) in
+      let q = passed (not (eqb (c .floatWork) (2 * (n * k) + 2 * n))) 7 (whole 7 ∷ []) _ tt (p .1) in
+      let r = passed (not (eqb (c .integerWork) n)) 7 (whole 8 ∷ []) _ tt (q .1) in
+      let s = passed (not (leb (c .slots) 1048576)) 7 (whole 9 ∷ []) _ tt (r .1) in
+      let t = passed (not (eqb (length (c .assignments)) (length (c .samples) / k))) 7 (whole 10 ∷ []) _ tt (s .1) in
       let u = passed-bounded 1 (firstOutside updateLimit (c .codebook)) _ tt (t .1) in
       let v = passed-bounded 2 (firstOutside updateLimit (c .samples)) _ tt (u .1) in
       (u .0, v .0)

@@ -13,6 +13,7 @@ use lib.Ieee.{Float, nan, inf, fin, binary64, add, sub, div, le}
 use lib.Ieee.Scale.{finite}
 use borrow.Author.Tests.{eq-eqb, ne-eqb}
 use Rattle.error.specs.Numbers.{completed, whole}
+use Rattle.error.proofs.Outcomes.{passed}
 use Rattle.ieee.specs.Bounds.{AtMost, Upto, Holds}
 use Rattle.ieee.proofs.Bound.{add-upto, sub-upto, at-most-finite, upto-finite, upto-mono, never-passes}
 use Rattle.ieee.proofs.Value.{holds-true}
@@ -21,7 +22,6 @@ use Rattle.slices.specs.declared.First.the-variants.{At}
 use Rattle.lloyd_search.specs.Distance.{distance}
 use Rattle.lloyd_search.specs.Finite.{FiniteDistance}
 use Rattle.lloyd_search.proofs.FiniteLaw.{Bounded, difference-upto, finite-distance, distance-fits}
-use Rattle.lloyd_search.proofs.AnswersLaw.{passed-check}
 use Rattle.lloyd_cells.specs.Repair.{Cells, Terms, Repaired, donorTo, leastNorm, residualNorm, shift, repairBy, turn, repairTo}
 use Rattle.lloyd_cells.proofs.DonorLaw.{donor-plenty}
 use Rattle.lloyd_cells.proofs.TallyLaw.{then-completed, splitBy, turn-completed, tallied, tallied-upto}
@@ -154,7 +154,7 @@ module _ (t : Terms) (far : ℕ → ℕ → Float) (st : Cells) (B : ℕ → ℕ
       made : (s : Repaired) → turn t far e r ≡ completed s → r .cells .tally e ≡ 0 → T (not (le donor-norm leastNorm))
       made s h z =
           let by : repairBy t far e r (At c) ≡ completed s = rw (eq-eqb (r .cells .tally e) 0 z, donor) at h in
-          subst (λ (b : Bool). T (not b)) (sym (passed-check (le donor-norm leastNorm) 16 (whole c ∷ []) _ s by .0)) tt
+          subst (λ (b : Bool). T (not b)) (sym (passed (le donor-norm leastNorm) 16 (whole c ∷ []) _ s by .0)) tt
 
     words-turn : (e : ℕ) (r s : Repaired) → e < t .cells → repairTo t far st e ≡ completed r → Sofar e r → turn t far e r ≡ completed s → Sofar (suc e) s
     words-turn e r s l came words h = elim (turn-completed t far e r s h) [

@@ -8,7 +8,7 @@ use lib.Dec.{T}
 use lib.Ieee.{Float, lt}
 use lib.Ieee.Scale.{finite}
 use Rattle.error.specs.Numbers.{completed}
-use Rattle.lloyd_search.proofs.AnswersLaw.{completed-same}
+use Rattle.error.proofs.Outcomes.{completed-same}
 use Rattle.lloyd_cells.proofs.TallyLaw.{then-completed}
 use Rattle.lloyd_refine.specs.Refine.{Job, restartsOf, iterationsOf, Trained, roundsTo, errorOf, Best, trainedFrom, restart, afterRestart, restartOn, restartsTo}
 use Rattle.refinement.proofs.ChecksLaw.{Checked}

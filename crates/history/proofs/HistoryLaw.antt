@@ -11,6 +11,7 @@ use lib.Dec.{ltb}
 use lib.ListN.{length, getD, take, drop, length-append}
 use lib.Ieee.{Float}
 use Rattle.error.specs.Numbers.{Value, Outcome, completed, refused, whole}
+use Rattle.error.proofs.Outcomes.{passed, refused-later}
 use Rattle.lloyd_search.specs.Distance.{rowOf}
 use Rattle.lloyd_events.specs.declared.LloydRepairEvent.{LloydRepairEvent}
 use Rattle.lloyd_cells.specs.Cells.{countTo, total}
@@ -20,7 +21,7 @@ use Rattle.lloyd_cells.proofs.CellsLaw.{total-count}
 use Rattle.lloyd_cells.proofs.TallyLaw.{then-completed, then-refused, donor-found}
 use Rattle.lloyd_update.specs.Alone.{Call, updateChecks, termsOf, updateOf, updateAlone, codebookAfter, slotsAfter}
 use Rattle.history.specs.History.{Request, callWith, after, answers, isCompleted, completions, accepted, Made, sampleCount, assignedTally, tallyAfter, Sound, Balanced, Tallies, AcceptedCall, AnyCall, History}
-use Rattle.history.proofs.ChecksLaw.{cond-passed, cond-refused, one-for-each, all-cells, checks-not-15}
+use Rattle.history.proofs.ChecksLaw.{one-for-each, all-cells, checks-not-15}
 use Rattle.history.proofs.TalliesLaw.{counted, follows, balanced, events-fit}
 
 take-front : {A : Type 0} (xs ys : List A) → take (length xs) (xs ++ ys) ≡ xs
@@ -47,11 +48,11 @@ module _ (c : Call) where
 
   repairs-completed : (r : Repaired) → updateOf c ≡ completed r → repairs ≡ completed r
   unfolding updated
-  repairs-completed r h = cond-passed (failsClosed (c .policy) && ltb 0 none) 14 (whole none ∷ []) repairs r h .1
+  repairs-completed r h = passed (failsClosed (c .policy) && ltb 0 none) 14 (whole none ∷ []) repairs r h .1
 
   repairs-refused : (vs : List Value) → updateOf c ≡ refused 15 vs → repairs ≡ refused 15 vs
   unfolding updated
-  repairs-refused vs h = cond-refused (failsClosed (c .policy) && ltb 0 none) 14 (whole none ∷ []) repairs 15 vs (λ q. omega arith) h
+  repairs-refused vs h = refused-later (failsClosed (c .policy) && ltb 0 none) 14 (whole none ∷ []) repairs 15 vs (λ q. omega arith) h
 
   module _ (pass : updateChecks c ≡ completed tt) where
     start-is : start .tally ≡ assignedTally (c .assignments)

@@ -9,6 +9,7 @@ use lib.Ieee.{Float}
 use borrow.Author.Tests.{not-false, eqb-true, leb-true}
 use Rattle.error.specs.declared.Refusal.{Refusal}
 use Rattle.error.specs.Numbers.{Outcome, completed, whole, also, refusal}
+use Rattle.error.proofs.Outcomes.{passed}
 use Rattle.error.proofs.Refusals.{also-first, also-next, also-refused, also-then}
 use Rattle.slices.specs.declared.First.{First}
 use Rattle.slices.specs.declared.First.the-variants.{Nowhere, At}
@@ -16,7 +17,6 @@ use Rattle.slices.specs.Limit.{firstOutside, bounded}
 use Rattle.profile.specs.Facts.{Valid}
 use Rattle.profile.specs.Valid.{validity}
 use Rattle.profile.proofs.Facts as profile-facts
-use Rattle.lloyd_search.proofs.AnswersLaw.{passed-check}
 use Rattle.lloyd_refine.specs.Refine.{Job, sizeOf, dimOf, countOf, restartsOf, refineLimit, lengthChecks, valueChecks, refineChecks}
 
 pub record Passed (j : Job) : Type 0 where
@@ -36,13 +36,13 @@ checks-passed j e =
     let k = dimOf j in
     let v = also-first (validity (j .profile) (j .schema) (j .algorithm) (j .log2)) _ e in
     let l = also-first (lengthChecks j) _ (also-next (validity (j .profile) (j .schema) (j .algorithm) (j .log2)) _ e) in
-    let o = passed-check (not (eqb (length (j .initial)) (n * k))) 7 (whole 1 ∷ []) _ tt l in
-    let p = passed-check (not (eqb (length (j .samples)) (countOf j * k))) 7 (whole 2 ∷ []) _ tt (o .1) in
-    let q = passed-check (not (eqb (length (j .matrices)) ((restartsOf j - 1) * (k * k)))) 7 (whole 3 ∷ []) _ tt (p .1) in
-    let r = passed-check (not (eqb (j .codewords) (n * k))) 7 (whole 4 ∷ []) _ tt (q .1) in
-    let s = passed-check (not (eqb (j .floatWork) (4 * (n * k) + 2 * n))) 7 (whole 7 ∷ []) _ tt (r .1) in
-    let t = passed-check (not (eqb (j .integerWork) (n + countOf j))) 7 (whole 8 ∷ []) _ tt (s .1) in
-    let u = passed-check (not (leb (j .slots) 1048576)) 7 (whole 9 ∷ []) _ tt (t .1) in
+    let o = passed (not (eqb (length (j .initial)) (n * k))) 7 (whole 1 ∷ []) _ tt l in
+    let p = passed (not (eqb (length (j .samples)) (countOf j * k))) 7 (whole 2 ∷ []) _ tt (o .1) in
+    let q = passed (not (eqb (length (j .matrices)) ((restartsOf j - 1) * (k * k)))) 7 (whole 3 ∷ []) _ tt (p .1) in
+    let r = passed (not (eqb (j .codewords) (n * k))) 7 (whole 4 ∷ []) _ tt (q .1) in
+    let s = passed (not (eqb (j .floatWork) (4 * (n * k) + 2 * n))) 7 (whole 7 ∷ []) _ tt (r .1) in
+    let t = passed (not (eqb (j .integerWork) (n + countOf j))) 7 (whole 8 ∷ []) _ tt (s .1) in
+    let u = passed (not (leb (j .slots) 1048576)) 7 (whole 9 ∷ []) _ tt (t .1) in
     record {
       valid = profile-facts.valid (j .profile) (j .schema) (j .algorithm) (j .log2) v;
       initial-length = eqb-true (length (j .initial)) (n * k) (not-false _ (o .0));

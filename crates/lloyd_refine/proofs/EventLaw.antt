@@ -10,9 +10,9 @@ use lib.ListN.{length, length-append}
 use lib.Ieee.{Float, lt}
 use Rattle.error.specs.declared.Refusal.{Refusal}
 use Rattle.error.specs.Numbers.{Value, Outcome, completed, refused, refusal, andThen}
+use Rattle.error.proofs.Outcomes.{passed, completed-same}
 use Rattle.error.proofs.Refusals.{by-refusal}
 use Rattle.profile.specs.declared.EmptyCellPolicy.{EmptyCellPolicy}
-use Rattle.lloyd_search.proofs.AnswersLaw.{passed-check, completed-same}
 use Rattle.lloyd_events.specs.declared.LloydRepairEvent.{LloydRepairEvent}
 use Rattle.lloyd_cells.specs.Repair.{Terms, Repaired, repairTo}
 use Rattle.lloyd_cells.specs.Update.{means, farthestSample, failsClosed, emptyCells, updated}
@@ -26,7 +26,7 @@ unfolding updated
 updated-within t policy S x a old u h =
     let st = means (t .dim) S x a old in
     events-within t (farthestSample (t .dim) S x a old) st (t .cells) u
-    (passed-check (failsClosed policy && ltb 0 (emptyCells (st .tally) (t .cells))) 14 _ (repairTo t (farthestSample (t .dim) S x a old) st (t .cells)) u h .1)
+    (passed (failsClosed policy && ltb 0 (emptyCells (st .tally) (t .cells))) 14 _ (repairTo t (farthestSample (t .dim) S x a old) st (t .cells)) u h .1)
 
 pub round-within : (j : Job) (r i used : ℕ) (codebook : List Float) (u : Repaired) → roundOf j r i used codebook ≡ completed u → length (u .events) ≤ j .slots - used
 round-within j r i used codebook u h = updated-within (roundTerms j r i used) _ _ _ _ _ u h

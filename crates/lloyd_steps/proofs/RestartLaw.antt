@@ -11,13 +11,13 @@ use lib.Seq.{ext-getD, getD-take, length-take-le}
 use lib.Ieee.{Float, nan, lt}
 use borrow.Author.Tests.{ne-eqb}
 use Rattle.error.specs.Numbers.{Outcome, completed, andThen}
+use Rattle.error.proofs.Outcomes.{completed-same}
 use Rattle.slices.specs.Lists.{patched}
 use Rattle.slices.proofs.ListLaw.{length-patched, patched-inside, patched-above}
 use Rattle.slices.proofs.TabulateLaw.{length-tabulate, getD-tabulate}
 use Rattle.rotation.specs.Apply.{appliedAt}
 use Rattle.lloyd_search.specs.Distance.{rowOf}
 use Rattle.lloyd_search.specs.Nearest.{meanError}
-use Rattle.lloyd_search.proofs.AnswersLaw.{completed-same}
 use Rattle.lloyd_round.specs.Round.{Holding}
 use Rattle.lloyd_refine.specs.declared.Refinement.the-variants.{Report}
 use Rattle.lloyd_refine.specs.declared.RefineState.{RefineState}

@@ -8,14 +8,15 @@ use lib.Dec.{eqb, leb}
 use lib.ListN.{length, getD}
 use borrow.Author.Tests.{not-false, eqb-true, leb-true, leb-false}
 use Rattle.error.specs.Numbers.{completed, whole}
+use Rattle.error.proofs.Outcomes.{passed}
 use Rattle.slices.specs.declared.First.{First}
 use Rattle.slices.specs.declared.First.the-variants.{Nowhere, At}
 use Rattle.slices.specs.First.{firstWhere}
 use Rattle.slices.specs.Limit.{firstOutside}
 use Rattle.slices.proofs.FirstLaw.{none-before}
-use Rattle.lloyd_search.specs.Answers.{codebookShaped, samplesShaped}
+use Rattle.lloyd_search.specs.Shape.{codebookShaped, samplesShaped}
 use Rattle.lloyd_search.proofs.ShapeLaw.{Codebook, Samples, codebook-shape, samples-shape}
-use Rattle.lloyd_search.proofs.AnswersLaw.{passed-check, passed-bounded}
+use Rattle.lloyd_search.proofs.LimitLaw.{passed-bounded}
 use Rattle.lloyd_update.specs.Alone.{Call, updateLimit, assigned, valueChecks, updateChecks}
 
 pub record Passed (c : Call) : Type 0 where
@@ -36,12 +37,12 @@ unfolding updateChecks valueChecks
 checks-passed c e =
     let n = c .size in
     let k = c .dim in
-    let o = passed-check (not (codebookShaped n k (length (c .codebook)))) 7 (whole 1 ∷ []) _ tt e in
-    let p = passed-check (not (samplesShaped k (length (c .samples)))) 7 (whole 2 ∷ []) _ tt (o .1) in
-    let q = passed-check (not (eqb (c .floatWork) (2 * (n * k) + 2 * n))) 7 (whole 7 ∷ []) _ tt (p .1) in
-    let r = passed-check (not (eqb (c .integerWork) n)) 7 (whole 8 ∷ []) _ tt (q .1) in
-    let s = passed-check (not (leb (c .slots) 1048576)) 7 (whole 9 ∷ []) _ tt (r .1) in
-    let t = passed-check (not (eqb (length (c .assignments)) (length (c .samples) / k))) 7 (whole 10 ∷ []) _ tt (s .1) in
+    let o = passed (not (codebookShaped n k (length (c .codebook)))) 7 (whole 1 ∷ []) _ tt e in
+    let p = passed (not (samplesShaped k (length (c .samples)))) 7 (whole 2 ∷ []) _ tt (o .1) in
+    let q = passed (not (eqb (c .floatWork) (2 * (n * k) + 2 * n))) 7 (whole 7 ∷ []) _ tt (p .1) in
+    let r = passed (not (eqb (c .integerWork) n)) 7 (whole 8 ∷ []) _ tt (q .1) in
+    let s = passed (not (leb (c .slots) 1048576)) 7 (whole 9 ∷ []) _ tt (r .1) in
+    let t = passed (not (eqb (length (c .assignments)) (length (c .samples) / k))) 7 (whole 10 ∷ []) _ tt (s .1) in
     let u = passed-bounded 1 (firstOutside updateLimit (c .codebook)) _ tt (t .1) in
     let v = passed-bounded 2 (firstOutside updateLimit (c .samples)) _ tt (u .1) in
     let none = all-assigned (c .assignments) n (firstWhere (λ i. leb n (getD (c .assignments) i 0)) (length (c .assignments))) (v .1) in

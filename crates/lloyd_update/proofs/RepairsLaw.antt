@@ -9,11 +9,11 @@ use lib.ListN.{length, length-append}
 use lib.Ieee.{Float, le}
 use borrow.Author.Tests.{leb-false}
 use Rattle.error.specs.declared.Refusal.{Refusal}
-use Rattle.error.specs.Numbers.{Value, Outcome, completed, refused, andThen, whole, refusal}
+use Rattle.error.specs.Numbers.{Outcome, completed, refused, andThen, whole, refusal}
+use Rattle.error.proofs.Outcomes.{never, completed-same}
 use Rattle.error.proofs.Refusals.{by-refusal}
 use Rattle.slices.specs.declared.First.{First}
 use Rattle.slices.specs.declared.First.the-variants.{Nowhere, At}
-use Rattle.lloyd_search.proofs.AnswersLaw.{completed-same}
 use Rattle.lloyd_events.specs.declared.LloydRepairEvent.{LloydRepairEvent}
 use Rattle.lloyd_cells.specs.declared.Places.{Places}
 use Rattle.lloyd_cells.specs.Repair.{Cells, Terms, Repaired, donorTo, leastNorm, residualNorm, eventOf, repairBy, turn, repairTo}
@@ -31,9 +31,6 @@ use Rattle.lloyd_update.specs.Alone.{Call, termsOf, updateChecks, update
 use Rattle.lloyd_update.specs.Progress.{placesOf, numbersOf, updatedOf, startOf, farOf, Under, Progress, Matches, Ready, ReadyAt}
 use Rattle.lloyd_update.proofs.CheckLaw.{checks-passed}
 use Rattle.lloyd_update.proofs.AddLaw.{places-small}
-
-never : {A : Type 0} (n : ℕ) (vs : List Value) (r : A) → refused n vs ≡ completed r → ⊥
-never n vs r e = let z : _≡_ {A = ℕ} 0 1 = cc in omega arith
 
 pub not-completed : {A : Type 0} (x : Refusal) (r : A) → refusal x ≡ completed r → ⊥
 not-completed {A} x r = by-refusal (λ (q p : Outcome A). q ≡ completed r → ⊥) (λ n vs k. never n vs r k) x

@@ -11,6 +11,7 @@ use lib.ListN.{length, getD}
 use lib.Ieee.{Float, le}
 use borrow.Author.Tests.{le-leb, lt-leb, eq-eqb}
 use Rattle.error.specs.Numbers.{Outcome, completed, refused, andThen, whole}
+use Rattle.error.proofs.Outcomes.{passed}
 use Rattle.slices.specs.declared.First.{First}
 use Rattle.slices.specs.declared.First.the-variants.{Nowhere, At}
 use Rattle.slices.specs.First.{firstWhere}
@@ -19,7 +20,7 @@ use Rattle.slices.proofs.FirstLaw.{nowhere}
 use Rattle.slices.proofs.TabulateLaw.{length-tabulate}
 use Rattle.profile.specs.declared.EmptyCellPolicy.{EmptyCellPolicy}
 use Rattle.lloyd_search.specs.Distance.{rowOf}
-use Rattle.lloyd_search.specs.Answers.{codebookShaped, samplesShaped}
+use Rattle.lloyd_search.specs.Shape.{codebookShaped, samplesShaped}
 use Rattle.lloyd_cells.specs.Repair.{Cells, Terms, Repaired, donorTo, leastNorm, residualNorm, repairBy, turn, repairTo}
 use Rattle.lloyd_cells.specs.Update.{means, farthestSample, failsClosed, emptyCells, updated}
 use Rattle.lloyd_cells.proofs.TallyLaw.{then-completed, splitBy}
@@ -28,7 +29,6 @@ use Rattle.lloyd_update.specs.Alone.{Call, updateLimit, valueChecks, updateChec
 use Rattle.slices.specs.Lists.{wordsOf}
 use Rattle.lloyd_refine.specs.Refine.{Job, sizeOf, dimOf, countOf, roundTerms, roundOf, Trained}
 use Rattle.history.specs.History.{callWith}
-use Rattle.history.proofs.ChecksLaw.{cond-passed}
 use Rattle.refinement.specs.Refinement.{roundRequest}
 use Rattle.refinement.proofs.ChecksLaw.{Checked}
 use Rattle.refinement.proofs.DonorLaw.{cell-below}
@@ -72,7 +72,7 @@ updated-shown t m policy S x a old r h =
     let st = means (t .dim) S x a old in
     let far = farthestSample (t .dim) S x a old in
     let none = emptyCells (st .tally) (t .cells) in
-    let p = cond-passed (failsClosed policy && ltb 0 none) 14 (whole none ∷ []) (repairTo t far st (t .cells)) r h in
+    let p = passed (failsClosed policy && ltb 0 none) 14 (whole none ∷ []) (repairTo t far st (t .cells)) r h in
     rw (p .0) (repairs-shown t m far st (t .cells) r (p .1))
 
 -- ---- the checks

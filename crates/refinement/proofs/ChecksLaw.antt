@@ -12,6 +12,7 @@ use lib.IntN.{pos}
 use lib.Ieee.{Float, binary64, ofInt}
 use borrow.Author.Tests.{eqb-true, leb-true, not-false}
 use Rattle.error.specs.Numbers.{Value, Outcome, completed, refused, also, whole}
+use Rattle.error.proofs.Outcomes.{passed}
 use Rattle.error.proofs.Refusals.{also-first, also-next}
 use Rattle.slices.specs.declared.First.{First}
 use Rattle.slices.specs.declared.First.the-variants.{Nowhere, At}
@@ -25,7 +26,7 @@ use Rattle.profile.specs.Tests.{profileSchema, rotationAlgorithm, sameBytes, is
 use Rattle.profile.specs.Valid.{named, shapeOf, sizesOf, formatsOf, widthOf, rateOf, ratesOf, methodsOf, settingsOf, numbersOf, perCoord, validity}
 use Rattle.profile.specs.Facts.{Valid}
 use Rattle.profile.proofs.Facts.{valid}
-use Rattle.lloyd_search.proofs.AnswersLaw.{passed-check, passed-bounded}
+use Rattle.lloyd_search.proofs.LimitLaw.{passed-bounded}
 use Rattle.lloyd_refine.specs.Refine.{Job, sizeOf, dimOf, countOf, restartsOf, refineLimit, lengthChecks, valueChecks, refineChecks}
 
 -- ---- what has passed
@@ -64,13 +65,13 @@ module _ (j : Job) where
   lengths : lengthChecks j ≡ completed tt → (initialBad ≡ false) × (samplesBad ≡ false) × (matricesBad ≡ false) × (slotsBad ≡ false)
   unfolding lengthChecks
   lengths h =
-      let initial = passed-check initialBad 7 (whole 1 ∷ []) _ tt h in
-      let samples = passed-check samplesBad 7 (whole 2 ∷ []) _ tt (initial .1) in
-      let matrices = passed-check matricesBad 7 (whole 3 ∷ []) _ tt (samples .1) in
-      let codewords = passed-check codewordsBad 7 (whole 4 ∷ []) _ tt (matrices .1) in
-      let floats = passed-check floatsBad 7 (whole 7 ∷ []) _ tt (codewords .1) in
-      let integers = passed-check integersBad 7 (whole 8 ∷ []) _ tt (floats .1) in
-      let slots = passed-check slotsBad 7 (whole 9 ∷ []) _ tt (integers .1) in
+      let initial = passed initialBad 7 (whole 1 ∷ []) _ tt h in
+      let samples = passed samplesBad 7 (whole 2 ∷ []) _ tt (initial .1) in
+      let matrices = passed matricesBad 7 (whole 3 ∷ []) _ tt (samples .1) in
+      let codewords = passed codewordsBad 7 (whole 4 ∷ []) _ tt (matrices .1) in
+      let floats = passed floatsBad 7 (whole 7 ∷ []) _ tt (codewords .1) in
+      let integers = passed integersBad 7 (whole 8 ∷ []) _ tt (floats .1) in
+      let slots = passed slotsBad 7 (whole 9 ∷ []) _ tt (integers .1) in
       (initial .0, samples .0, matrices .0, slots .0)
 
   values : valueChecks j ≡ completed tt → (firstOutside refineLimit (j .initial) ≡ Nowhere) × (firstOutside refineLimit (j .samples) ≡ Nowhere) × (firstOutside refineLimit (j .matrices) ≡ Nowhere)

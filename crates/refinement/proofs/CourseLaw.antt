@@ -12,12 +12,12 @@ use lib.Seq.{getD-take, getD-drop}
 use lib.Ieee.{nan, lt}
 use borrow.Author.Tests.{ne-eqb}
 use Rattle.error.specs.Numbers.{Outcome, completed, refused, andThen}
+use Rattle.error.proofs.Outcomes.{completed-same}
 use Rattle.ieee.proofs.Bound.{sumTo-ext}
 use Rattle.slices.proofs.TabulateLaw.{getD-tabulate}
 use Rattle.rotation.specs.Apply.{appliedAt}
 use Rattle.lloyd_search.proofs.Parts.{row-place}
 use Rattle.lloyd_events.specs.declared.LloydRepairEvent.{LloydRepairEvent}
-use Rattle.lloyd_search.proofs.AnswersLaw.{completed-same}
 use Rattle.lloyd_cells.specs.Repair.{Repaired}
 use Rattle.lloyd_cells.proofs.TallyLaw.{then-completed}
 use Rattle.lloyd_round.specs.Round.{meansOf}

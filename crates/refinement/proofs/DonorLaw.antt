@@ -1,6 +1,6 @@
 -- A refinement has at least as many samples as codewords, so that no round of it lacks a donor.
 -- Assumes nothing.
-use mathlib.Core.Path.{_≡_}
+use mathlib.Core.Path.{_≡_, sym}
 use mathlib.Core.Logic.{inl, inr}
 use Prim.Native.Nat.{ℕ, zero, suc, _≤_, _<_}
 use native.Mathlib.Nat.{le-refl, le-step, lt-suc-self, zero-lt-suc}
@@ -11,6 +11,7 @@ use lib.Dec.{ltb}
 use lib.ListN.{length}
 use lib.Ieee.{Float, inf, lt}
 use Rattle.error.specs.Numbers.{Value, completed, refused, whole}
+use Rattle.error.proofs.Outcomes.{never, refused-later}
 use Rattle.slices.proofs.TabulateLaw.{getD-tabulate}
 use Rattle.lloyd_search.specs.Distance.{distance, rowOf}
 use Rattle.lloyd_search.specs.Nearest.{pick, firstLeast, nearest}
@@ -20,7 +21,6 @@ use Rattle.lloyd_cells.proofs.CellsLaw.{total-count}
 use Rattle.lloyd_cells.proofs.TallyLaw.{then-refused, donor-found}
 use Rattle.lloyd_round.specs.Round.{cellOf, meansOf, farOf}
 use Rattle.lloyd_refine.specs.Refine.{Job, sizeOf, dimOf, countOf, restartsOf, iterationsOf, refineChecks, roundTerms, roundOf, Trained, afterRound, roundOn, roundsTo, trainedFrom, afterRestart, restartOn, restartsTo, refineOf, refinement}
-use Rattle.history.proofs.ChecksLaw.{cond-refused}
 use Rattle.refinement.proofs.ChecksLaw.{Checked, checked, checks-not-15}
 
 -- ---- the nearest codeword is one of the codewords
@@ -48,10 +48,6 @@ module _ (k n S : ℕ) (samples codebook : List Float) where
   tally-total : 1 ≤ n → total (meansOf k n S samples codebook .tally) n ≡ S
   tally-total h = total-count (cellOf k n S samples codebook) n S (cell-below h)
 
-module _ {A : Type 0} where
-  pub never : (x : A) (n : ℕ) (vs : List Value) → completed x ≡ refused n vs → ⊥
-  never x n vs h = let z : _≡_ {A = ℕ} 0 1 = cc in omega arith
-
 module _ (j : Job) (pass : Checked j) where
   -- ---- a round, a restart, all of them
   pub round-donor : (r i used : ℕ) (codebook : List Float) (vs : List Value) → roundOf j r i used codebook ≡ refused 15 vs → ⊥
@@ -64,27 +60,27 @@ module _ (j : Job) (pass : Checked j) where
       let m = p .settings .samples-least in
       let all = tally-total (dimOf j) n (countOf j) (j .samples) codebook (omega arith) in
       donor-found (roundTerms j r i used) (farOf (dimOf j) n (countOf j) (j .samples) codebook) (meansOf (dimOf j) n (countOf j) (j .samples) codebook) n vs (le-refl n) (rw all m)
-      (cond-refused (failsClosed (j .profile .«empty_cell_policy») && ltb 0 none) 14 (whole none ∷ []) _ 15 vs (λ q. omega arith) h)
+      (refused-later (failsClosed (j .profile .«empty_cell_policy») && ltb 0 none) 14 (whole none ∷ []) _ 15 vs (λ q. omega arith) h)
 
   rounds-donor : (r : ℕ) (t : Trained) (i : ℕ) (vs : List Value) → roundsTo j r t i ≡ refused 15 vs → ⊥
   unfolding roundsTo
-  rounds-donor r t zero vs h = never t 15 vs h
+  rounds-donor r t zero vs h = never 15 vs t (sym h)
   rounds-donor r t (suc i) vs h = elim (then-refused (roundsTo j r t i) (roundOn j r i) 15 vs h) [
     | inl p ↦ rounds-donor r t i vs p
     | inr (s, p, q) ↦ elim (then-refused (roundOf j r i (length (s .events)) (s .codebook)) (λ u. completed (afterRound j s u)) 15 vs q) [
       | inl o ↦ round-donor r i (length (s .events)) (s .codebook) vs o
-      | inr (u, a, o) ↦ never (afterRound j s u) 15 vs o
+      | inr (u, a, o) ↦ never 15 vs (afterRound j s u) (sym o)
     ]
   ]
 
   restarts-donor : (r : ℕ) (vs : List Value) → restartsTo j r ≡ refused 15 vs → ⊥
   unfolding restartsTo
-  restarts-donor zero vs h = never _ 15 vs h
+  restarts-donor zero vs h = never 15 vs _ (sym h)
   restarts-donor (suc r) vs h = elim (then-refused (restartsTo j r) (restartOn j r) 15 vs h) [
     | inl p ↦ restarts-donor r vs p
     | inr (b, p, q) ↦ elim (then-refused (roundsTo j r (trainedFrom j r b) (iterationsOf j)) (λ t. completed (afterRestart j r b t)) 15 vs q) [
       | inl o ↦ rounds-donor r (trainedFrom j r b) (iterationsOf j) vs o
-      | inr (t, a, o) ↦ never (afterRestart j r b t) 15 vs o
+      | inr (t, a, o) ↦ never 15 vs (afterRestart j r b t) (sym o)
     ]
   ]
 

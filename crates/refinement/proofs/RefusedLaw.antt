@@ -9,6 +9,7 @@ use lib.Dec.{eqb, leb, ltb}
 use lib.ListN.{length}
 use lib.Ieee.{Float, le}
 use Rattle.error.specs.Numbers.{Value, Outcome, completed, refused, andThen, whole}
+use Rattle.error.proofs.Outcomes.{never}
 use Rattle.slices.specs.declared.First.{First}
 use Rattle.slices.specs.declared.First.the-variants.{Nowhere, At}
 use Rattle.profile.specs.declared.EmptyCellPolicy.{EmptyCellPolicy}
@@ -21,7 +22,7 @@ use Rattle.lloyd_update.specs.Alone.{updateOf}
 use Rattle.lloyd_refine.specs.Refine.{Job, sizeOf, dimOf, countOf, restartsOf, iterationsOf, refineChecks, roundTerms, roundOf, Trained, afterRound, roundOn, roundsTo, trainedFrom, afterRestart, restartOn, restartsTo, refineOf, refinement}
 use Rattle.refinement.specs.Refinement.{Reached, SameRefusal, RefusedRefinement}
 use Rattle.refinement.proofs.ChecksLaw.{Checked, checked}
-use Rattle.refinement.proofs.DonorLaw.{never, round-donor}
+use Rattle.refinement.proofs.DonorLaw.{round-donor}
 use Rattle.refinement.proofs.AloneLaw.{showing, repairs-shown, roundCall, count-is, checks-pass}
 use Rattle.refinement.proofs.TameLaw.{reached-tame}
 
@@ -45,7 +46,7 @@ module _ (t : Terms) (m : ℕ) (far : ℕ → ℕ → Float) (n : ℕ) (vs : Lis
             → Alike (t .shown) m n vs (cond a (refused 16 (whole c ∷ [])) (cond b (refused 19 (whole m ∷ [])) (completed (splitBy t far e r c))))
         go true b k = let q : 16 ≡ n = cc in inl (inr (inr (sym q)), k)
         go false true k = let q : 19 ≡ n = cc in let v : whole (t .shown) ∷ [] ≡ vs = cc in inr (sym q, sym v, refl)
-        go false false k = absurd (never (splitBy t far e r c) n vs k)
+        go false false k = absurd (never n vs (splitBy t far e r c) (sym k))
 
     turn-alike : turn t far e r ≡ refused n vs → Alike (t .shown) m n vs (turn (showing t m far) far e r)
     turn-alike h = go (eqb (r .cells .tally e) 0) h
@@ -53,11 +54,11 @@ module _ (t : Terms) (m : ℕ) (far : ℕ → ℕ → Float) (n : ℕ) (vs : Lis
         go : (b : Bool) → cond b (repairBy t far e r (donorTo (r .cells .tally) (r .cells .distortion) (t .cells))) (completed r) ≡ refused n vs
             → Alike (t .shown) m n vs (cond b (repairBy (showing t m far) far e r (donorTo (r .cells .tally) (r .cells .distortion) (t .cells))) (completed r))
         go true k = repair-alike (donorTo (r .cells .tally) (r .cells .distortion) (t .cells)) k
-        go false k = absurd (never r n vs k)
+        go false k = absurd (never n vs r (sym k))
 
   repairs-alike : (st : Cells) (e : ℕ) → repairTo t far st e ≡ refused n vs → Alike (t .shown) m n vs (repairTo (showing t m far) far st e)
   unfolding repairTo
-  repairs-alike st zero h = absurd (never _ n vs h)
+  repairs-alike st zero h = absurd (never n vs _ (sym h))
   repairs-alike st (suc e) h = elim (then-refused (repairTo t far st e) (turn t far e) n vs h) [
     | inl p ↦ stays (t .shown) m n vs (repairTo (showing t m far) far st e) (turn (showing t m far) far e) (repairs-alike st e p)
     | inr (x, p, q) ↦ rw (repairs-shown t m far st e x p) (turn-alike e x q)
@@ -90,26 +91,26 @@ module _ (j : Job) (n : ℕ) (vs : List Value) where
   refused-round : (r : ℕ) (from : Trained) (i : ℕ) → i ≤ iterationsOf j → roundsTo j r from i ≡ refused n vs
       → (m : ℕ) × (t : Trained) × (m < iterationsOf j) × (roundsTo j r from m ≡ completed t) × (roundAt r m t ≡ refused n vs)
   unfolding roundsTo
-  refused-round r from zero l h = absurd (never from n vs h)
+  refused-round r from zero l h = absurd (never n vs from (sym h))
   refused-round r from (suc i) l h = elim (then-refused (roundsTo j r from i) (roundOn j r i) n vs h) [
     | inl p ↦ refused-round r from i (le-of-lt l) p
     | inr (s, p, q) ↦ elim (then-refused (roundAt r i s) (λ u. completed (afterRound j s u)) n vs q) [
       | inl o ↦ (i, s, l, p, o)
-      | inr (u, a, o) ↦ absurd (never (afterRound j s u) n vs o)
+      | inr (u, a, o) ↦ absurd (never n vs (afterRound j s u) (sym o))
     ]
   ]
 
   refused-restart : (r : ℕ) → r ≤ restartsOf j → restartsTo j r ≡ refused n vs
       → (m : ℕ) × (i : ℕ) × (t : Trained) × (m < restartsOf j) × (i < iterationsOf j) × Reached j m i t × (roundAt m i t ≡ refused n vs)
   unfolding restartsTo
-  refused-restart zero l h = absurd (never _ n vs h)
+  refused-restart zero l h = absurd (never n vs _ (sym h))
   refused-restart (suc r) l h = elim (then-refused (restartsTo j r) (restartOn j r) n vs h) [
     | inl p ↦ refused-restart r (le-of-lt l) p
     | inr (b, p, q) ↦ elim (then-refused (roundsTo j r (trainedFrom j r b) (iterationsOf j)) (λ t. completed (afterRestart j r b t)) n vs q) [
       | inl o ↦
           let (i, t, m, a, k) = refused-round r (trainedFrom j r b) (iterationsOf j) (le-refl (iterationsOf j)) o in
           (r, i, t, l, m, record { best = b; restarts = p; rounds = a }, k)
-      | inr (t, a, o) ↦ absurd (never (afterRestart j r b t) n vs o)
+      | inr (t, a, o) ↦ absurd (never n vs (afterRestart j r b t) (sym o))
     ]
   ]
 

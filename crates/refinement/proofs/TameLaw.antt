@@ -6,11 +6,11 @@ use lib.Dec.{lit≤}
 use lib.ListN.{length}
 use lib.Ieee.{Float}
 use Rattle.error.specs.Numbers.{completed}
+use Rattle.error.proofs.Outcomes.{completed-same}
 use Rattle.slices.specs.declared.First.the-variants.{Nowhere}
 use Rattle.slices.specs.Limit.{firstOutside}
 use Rattle.slices.proofs.TabulateLaw.{length-tabulate}
 use Rattle.lloyd_search.specs.Distance.{rowOf}
-use Rattle.lloyd_search.proofs.AnswersLaw.{completed-same}
 use Rattle.lloyd_cells.specs.Repair.{Repaired}
 use Rattle.lloyd_cells.proofs.TallyLaw.{then-completed}
 use Rattle.lloyd_round.specs.Round.{cellOf}
