@@ -9,11 +9,12 @@ use lib.Ieee.{Float, nan, inf, fin, lt}
 use lib.Ieee.Scale.{finite}
 use borrow.Author.Tests.{not-false, ltb-true, eqb-true}
 use Rattle.error.specs.Numbers.{completed, whole}
+use Rattle.error.proofs.Outcomes.{passed}
 use Rattle.slices.specs.declared.First.the-variants.{Nowhere}
 use Rattle.slices.proofs.FirstLaw.{none-before}
-use Rattle.lloyd_search.specs.Answers.{codebookShaped}
+use Rattle.lloyd_search.specs.Shape.{codebookShaped}
 use Rattle.lloyd_search.proofs.ShapeLaw.{Codebook, codebook-shape}
-use Rattle.lloyd_search.proofs.AnswersLaw.{passed-check, passed-bounded}
+use Rattle.lloyd_search.proofs.LimitLaw.{passed-bounded}
 use Rattle.codebook.specs.Codebook.{firstNotFinite, codewordAlone, codewordsAlone}
 
 -- between the infinities
@@ -35,7 +36,7 @@ pub record CodewordsAccepted (n k : ℕ) (codewords : List Float) : Type 0 where
 pub codewords-accepted : (n k : ℕ) (codewords : List Float) → codewordsAlone n k codewords ≡ completed tt → CodewordsAccepted n k codewords
 unfolding codewordsAlone
 codewords-accepted n k codewords e =
-    let a = passed-check (not (codebookShaped n k (length codewords))) 7 (whole 4 ∷ []) _ tt e in
+    let a = passed (not (codebookShaped n k (length codewords))) 7 (whole 4 ∷ []) _ tt e in
     let b = passed-bounded 4 (firstNotFinite codewords) _ tt (a .1) in
     record { shape = codebook-shape n k (length codewords) (not-false _ (a .0)); values-finite = all-finite codewords (b .0) }
 
@@ -47,7 +48,7 @@ pub record CodewordAccepted (n k : ℕ) (codewords : List Float) (index values :
 pub codeword-accepted : (n k : ℕ) (codewords : List Float) (index values : ℕ) → codewordAlone n k codewords index values ≡ completed tt → CodewordAccepted n k codewords index values
 unfolding codewordAlone
 codeword-accepted n k codewords index values e =
-    let a = passed-check (not (codebookShaped n k (length codewords))) 7 (whole 4 ∷ []) _ tt e in
-    let b = passed-check (not (eqb values k)) 7 (whole 6 ∷ []) _ tt (a .1) in
-    let c = passed-check (not (ltb index n)) 11 (whole index ∷ whole n ∷ []) _ tt (b .1) in
+    let a = passed (not (codebookShaped n k (length codewords))) 7 (whole 4 ∷ []) _ tt e in
+    let b = passed (not (eqb values k)) 7 (whole 6 ∷ []) _ tt (a .1) in
+    let c = passed (not (ltb index n)) 11 (whole index ∷ whole n ∷ []) _ tt (b .1) in
     record { shape = codebook-shape n k (length codewords) (not-false _ (a .0)); room = eqb-true values k (not-false _ (b .0)); index-below = ltb-true index n (not-false _ (c .0)) }

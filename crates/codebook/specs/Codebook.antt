@@ -10,7 +10,7 @@ use Rattle.error.specs.Names.{codewordsSlice, outputSlice}
 use Rattle.error.specs.Numbers.{Outcome, completed, refused, whole}
 use Rattle.slices.specs.declared.First.{First}
 use Rattle.slices.specs.First.{firstWhere}
-use Rattle.lloyd_search.specs.Answers.{codebookShaped}
+use Rattle.lloyd_search.specs.Shape.{codebookShaped}
 use Rattle.slices.specs.Limit.{bounded}
 
 -- the first value that is not finite

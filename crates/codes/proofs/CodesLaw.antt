@@ -18,8 +18,7 @@ use Rattle.profile.specs.declared.FibQuantProfile.{FibQuantProfile}
 use Rattle.lloyd_search.specs.Distance.{rowOf, distance}
 use Rattle.lloyd_search.specs.Nearest.{nearest, Least}
 use Rattle.lloyd_search.proofs.Parts.{row-place}
-use Rattle.lloyd_search.proofs.AnswersLaw.{passed-bounded}
-use Rattle.lloyd_search.proofs.LimitLaw.{all-within}
+use Rattle.lloyd_search.proofs.LimitLaw.{all-within, passed-bounded}
 use Rattle.lloyd_search.proofs.FiniteLaw.{finite-distance}
 use Rattle.codebook.specs.Codebook.{firstNotFinite}
 use Rattle.codebook.proofs.CodebookLaw.{all-finite}

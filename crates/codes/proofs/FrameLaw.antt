@@ -11,6 +11,7 @@ use lib.Ieee.{Float, nan, eq}
 use lib.Ieee.Scale.{finite}
 use borrow.Author.Tests.{eq-eqb, lt-ltb}
 use Rattle.error.specs.Numbers.{Outcome, completed, refused, andThen}
+use Rattle.error.proofs.Outcomes.{passed, completed-same}
 use Rattle.error.proofs.Refusals.{also-first, also-next}
 use Rattle.ieee.specs.Sum.{plusZero}
 use Rattle.slices.specs.declared.First.{First}
@@ -24,7 +25,6 @@ use Rattle.bitpack.proofs.Packing.{packed-binary, packed-after, packed-byte, le
 use Rattle.compact.specs.Frame.{Parts, parsed, bytesOf}
 use Rattle.compact.proofs.FrameLaws.{parse-written}
 use Rattle.profile.specs.declared.FibQuantProfile.{FibQuantProfile}
-use Rattle.lloyd_search.proofs.AnswersLaw.{passed-check, completed-same}
 use Rattle.codebook.specs.Codebook.{firstNotFinite}
 use Rattle.codebook.proofs.CodebookLaw.{all-finite}
 use Rattle.norm.specs.Norm.{normBits, normValue}
@@ -64,7 +64,7 @@ unfolding normed
 norm-passed input bits e =
     let a = also-first (finiteInput (firstNotFinite input)) _ e in
     let b = also-next (finiteInput (firstNotFinite input)) _ e in
-    record { input-finite = all-finite input (finite-input (firstNotFinite input) a); pattern = passed-check (eq (normOf input) plusZero) 13 [] (normBits (normOf input)) bits b .1 }
+    record { input-finite = all-finite input (finite-input (firstNotFinite input) a); pattern = passed (eq (normOf input) plusZero) 13 [] (normBits (normOf input)) bits b .1 }
 
 module _ (p : FibQuantProfile) (schema algorithm : List ℕ) (log2 : Float) (matrix codewords input : List Float) (output work : ℕ) (frame : List ℕ) where
   pub record Encoded : Type 0 where

@@ -2,7 +2,7 @@
 use mathlib.Core.Path.{_≡_, refl, sym, ap, _∙_, subst}
 use Prim.Native.Nat.{ℕ, _+_, _*_, _/_, _^_, _≤_, _<_}
 use native.Mathlib.Omega.{arith}
-use mathlib.Core.Bool.{Bool, true, false, not, _&&_, cond}
+use mathlib.Core.Bool.{Bool, true, false, not, cond}
 use mathlib.Core.List.{List, [], _∷_}
 use lib.Dec.{T, ltb, eqb}
 use lib.ListN.{length, getD}
@@ -10,6 +10,7 @@ use lib.Ieee.{Float, nan}
 use lib.Ieee.Scale.{finite}
 use borrow.Author.Tests.{not-false, ltb-true, eqb-true}
 use Rattle.error.specs.Numbers.{Outcome, Value, completed, refused, whole, also, andThen, ofLength}
+use Rattle.error.proofs.Outcomes.{both, passed, completed-same}
 use Rattle.error.proofs.Refusals.{also-first, also-next}
 use Rattle.ieee.specs.Bounds.{Upto}
 use Rattle.slices.specs.declared.First.{First}
@@ -24,8 +25,7 @@ use Rattle.profile.specs.declared.FibQuantProfile.{FibQuantProfile}
 use Rattle.profile.specs.Valid.{validity}
 use Rattle.profile.specs.Facts.{Valid}
 use Rattle.profile.proofs.Facts as profile-facts
-use Rattle.lloyd_search.proofs.AnswersLaw.{passed-check, passed-bounded, completed-same}
-use Rattle.lloyd_search.proofs.LimitLaw.{all-within}
+use Rattle.lloyd_search.proofs.LimitLaw.{all-within, passed-bounded}
 use Rattle.codebook.specs.Codebook.{firstNotFinite}
 use Rattle.codebook.proofs.CodebookLaw.{all-finite}
 use Rattle.norm.specs.Norm.{normValue}
@@ -42,10 +42,6 @@ passed-length slice want have rest h = go (eqb have want) refl h
 none-offends : (n : ℕ) (indices : List ℕ) (f : First) → offending n indices f ≡ completed tt → f ≡ Nowhere
 none-offends n indices Nowhere h = refl
 none-offends n indices (At i) h = let z : _≡_ {A = ℕ} 0 1 = cc in absurd (omega arith)
-
-both : (a b : Bool) → a && b ≡ true → (a ≡ true) × (b ≡ true)
-both true b h = (refl, h)
-both false b h = let z : _≡_ {A = ℕ} 0 1 = cc in absurd (omega arith)
 
 -- ---- every check but the last
 pub record Readable (p : FibQuantProfile) (matrix codewords : List Float) (output work : ℕ) (parts : Parts) (norm : Float) : Type 0 where
@@ -80,9 +76,9 @@ module _ (p : FibQuantProfile) (schema algorithm : List ℕ) (log2 : Float) (mat
       let b1 = passed-bounded 4 (firstNotFinite codewords) _ tt (also-first (values matrix codewords) _ e2) in
       let b2 = passed-bounded 3 (firstOutside matrixLimit matrix) _ tt (b1 .1) in
       let i0 = also-first (indexed (p .«wire_index_bits») (d / k) n parts) _ e3 in
-      let h = both (eqb (parts .width) (p .«wire_index_bits»)) (eqb (parts .count) (d / k)) (not-false _ (passed-check _ 17 [] _ tt (also-first (headed (p .«wire_index_bits») (d / k) parts) _ i0) .0)) in
+      let h = both (eqb (parts .width) (p .«wire_index_bits»)) (eqb (parts .count) (d / k)) (not-false _ (passed _ 17 [] _ tt (also-first (headed (p .«wire_index_bits») (d / k) parts) _ i0) .0)) in
       let i1 = also-next (headed (p .«wire_index_bits») (d / k) parts) _ i0 in
-      let u = eqb-true (paddingFrom (parts .indices) (parts .count * parts .width)) 0 (not-false _ (passed-check _ 9 (whole 3 ∷ []) _ tt (also-first (unpadded parts) _ i1) .0)) in
+      let u = eqb-true (paddingFrom (parts .indices) (parts .count * parts .width)) 0 (not-false _ (passed _ 9 (whole 3 ∷ []) _ tt (also-first (unpadded parts) _ i1) .0)) in
       let o = none-offends n (indicesOf parts) _ (also-next (unpadded parts) _ i1) in
       record {
         valid = profile-facts.valid p schema algorithm log2 (also-first (validity p schema algorithm log2) _ e);

@@ -15,8 +15,8 @@ use Rattle.profile.specs.Tests.{indexWidth}
 use Rattle.profile.specs.Facts.{Valid}
 use Rattle.profile.proofs.Facts as profile-facts
 use Rattle.profile.proofs.Width.{least-width}
-use Rattle.lloyd_search.specs.Finite.{FiniteValues}
-use Rattle.lloyd_search.proofs.AnswersLaw.{passed-bounded}
+use Rattle.lloyd_search_f32.specs.Finite.{FiniteValues}
+use Rattle.lloyd_search.proofs.LimitLaw.{passed-bounded}
 use Rattle.codebook.specs.Codebook.{firstNotFinite}
 use Rattle.codebook.proofs.CodebookLaw.{all-finite}
 use Rattle.decode.specs.Decode.{values}

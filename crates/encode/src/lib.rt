@@ -20,7 +20,7 @@ ghost use Rattle.narrow.specs.Pack.{narrowTo};
 ghost use Rattle.bitpack.specs.Layout.{packedBit, packedBytes};
 ghost use Rattle.bitpack.specs.Cursor.{WriterAt};
 ghost use Rattle.compact.specs.Frame.{bytesOf, header, frameOf};
-ghost use Rattle.lloyd_search.specs.Finite.{FiniteValues};
+ghost use Rattle.lloyd_search_f32.specs.Finite.{FiniteValues};
 ghost use Rattle.norm.specs.Norm.{bitsOf};
 ghost use Rattle.encode.specs.Encode.{normOf, normalizedAt, searched, indicesFor, lengths, normed, codable, encoding};
 ghost use Rattle.encode.specs.Work.{Searchable, Writable};
@@ -175,7 +175,7 @@ fn write_fours(
     let mut at = 0usize;
     while turn < fours {
         let end = at + 4 * k;
-        let found = lloyd_search::search_four_f32(codewords, n, k, &values[at..end]);
+        let found = lloyd_search_f32::search_four_f32(codewords, n, k, &values[at..end]);
         writer = writer.push(found.first.index as u32, width, output);
         writer = writer.push(found.second.index as u32, width, output);
         writer = writer.push(found.third.index as u32, width, output);
@@ -204,7 +204,7 @@ fn write_indices(
     let mut at = i * k;
     while i < count {
         let end = at + k;
-        let found = lloyd_search::search_f32(codewords, n, &values[at..end]);
+        let found = lloyd_search_f32::search_f32(codewords, n, &values[at..end]);
         let index = found.index;
         writer = writer.push(index as u32, width, output);
         at = end;

@@ -1,10 +1,10 @@
 // The search for the nearest codeword, and the mean error of a codebook, for the host.
 use ffi_crossing::put;
 use ffi_crossing::put_refusal;
-use lloyd_search::CodebookError;
-use lloyd_search::NearestCodeword;
+use lloyd_alone::CodebookError;
+use lloyd_alone::NearestCodeword;
 ghost use mathlib.Core.Path.{_≡_};
-ghost use Rattle.lloyd_search.specs.Answers.{nearestAlone, meanErrorAlone};
+ghost use Rattle.lloyd_alone.specs.Answers.{nearestAlone, meanErrorAlone};
 ghost use Rattle.ffi_crossing.specs.Crossing.{found, crossed, oneReal};
 ghost use Rattle.ffi_codes.specs.Search.{foundIn};
 
@@ -20,7 +20,7 @@ pub extern "C" fn fib_nearest(
 ) -> u32
     ensures { λ r. ⌜ found r (now (whole .exit)) (now (real .exit)) ≡ crossed foundIn (nearestAlone «codebook_size» «block_dim» (now (codewords .entry)) (now (block .entry))) ⌝ }
 {
-    let answer = lloyd_search::nearest_index(codewords, codebook_size, block_dim, block);
+    let answer = lloyd_alone::nearest_index(codewords, codebook_size, block_dim, block);
     match answer {
         NearestCodeword::Nearest(found) => {
             put(
@@ -47,7 +47,7 @@ pub extern "C" fn fib_mean_error(
 ) -> u32
     ensures { λ r. ⌜ found r (now (whole .exit)) (now (real .exit)) ≡ crossed oneReal (meanErrorAlone «codebook_size» «block_dim» (now (codewords .entry)) (now (samples .entry))) ⌝ }
 {
-    let answer = lloyd_search::mse_for_codebook(codewords, codebook_size, block_dim, samples);
+    let answer = lloyd_alone::mse_for_codebook(codewords, codebook_size, block_dim, samples);
     match answer {
         CodebookError::Mean(error) => put(0, [0, 0, 0, 0], [error, 0.0], whole, real),
         CodebookError::Refused(refusal) => put_refusal(refusal, whole, real),

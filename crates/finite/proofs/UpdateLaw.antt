@@ -11,7 +11,7 @@ use Rattle.slices.specs.declared.First.the-variants.{Nowhere}
 use Rattle.slices.specs.Limit.{firstOutside}
 use Rattle.lloyd_search.specs.Distance.{rowOf}
 use Rattle.lloyd_search.proofs.FiniteLaw.{Bounded}
-use Rattle.lloyd_search.proofs.LimitLaw.{all-within}
+use Rattle.lloyd_search.proofs.LimitLaw.{all-within, passed-bounded}
 use Rattle.lloyd_search.proofs.Parts.{row-place}
 use Rattle.lloyd_cells.specs.Repair.{Repaired}
 use Rattle.lloyd_update.specs.Alone.{Call, updateLimit, updateChecks, termsOf, updateOf}

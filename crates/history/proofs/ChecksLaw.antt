@@ -14,7 +14,7 @@ use Rattle.slices.specs.declared.First.{First}
 use Rattle.slices.specs.declared.First.the-variants.{Nowhere, At}
 use Rattle.slices.specs.First.{firstWhere}
 use Rattle.slices.specs.Limit.{firstOutside, bounded}
-use Rattle.lloyd_search.specs.Answers.{codebookShaped, samplesShaped}
+use Rattle.lloyd_search.specs.Shape.{codebookShaped, samplesShaped}
 use Rattle.lloyd_update.specs.Alone.{Call, updateLimit, assigned, valueChecks, updateChecks}
 use Rattle.lloyd_update.proofs.CheckLaw.{checks-passed}
 

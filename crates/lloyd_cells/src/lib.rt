@@ -33,9 +33,6 @@ impl Places {
     }
 }
 
-// Below every distortion. The pattern of a constant, since no arithmetic result of a training job is infinite.
-const MINUS_INFINITY: u64 = 0xFFF0_0000_0000_0000;
-
 // By how much a donor's codeword is moved.
 pub const DONOR_SPLIT_EPSILON: f64 = 1.0e-6;
 
@@ -73,9 +70,9 @@ pub fn choose_donor(counts: &[u32], n: usize, work: &[f64], distortions: usize) 
     requires { ⌜ (n ≤ length (now counts)) × (distortions + n ≤ length (now work)) ⌝ }
     ensures { λ r. ⌜ r ≡ donorTo (λ c. getD (now (counts .entry)) c 0) (λ c. getD (now (work .entry)) (distortions + c) nan) n ⌝ }
 {
-    // n and -infinity while there is none
+    // n and -infinity, below every distortion, while there is none
     let mut best = n;
-    let mut largest = f64::from_bits(MINUS_INFINITY);
+    let mut largest = f64::from_bits(ieee::MINUS_INFINITY);
     let mut c = 0usize;
     let mut at = distortions;
     while c < n {

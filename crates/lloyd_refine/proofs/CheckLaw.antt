@@ -17,7 +17,7 @@ use Rattle.slices.specs.Limit.{firstOutside, bounded}
 use Rattle.profile.specs.Facts.{Valid}
 use Rattle.profile.specs.Valid.{validity}
 use Rattle.profile.proofs.Facts as profile-facts
-use Rattle.lloyd_search.proofs.AnswersLaw.{passed-bounded}
+use Rattle.lloyd_search.proofs.LimitLaw.{passed-bounded}
 use Rattle.lloyd_refine.specs.Refine.{Job, sizeOf, dimOf, countOf, restartsOf, refineLimit, lengthChecks, valueChecks, refineChecks}
 
 pub record Passed (j : Job) : Type 0 where

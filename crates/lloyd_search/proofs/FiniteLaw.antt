@@ -1,26 +1,25 @@
--- Under a bound of 2 ^ b on every coordinate, b at most 480, every arithmetic result of a distance, a search, the sums of its distances and a mean error is finite; and how large distances can be.
+-- Under a bound of 2 ^ b on every coordinate, b at most 480, every arithmetic result of a distance, a search and a mean error is finite; and how large distances can be.
 -- Assumes nothing.
 use mathlib.Core.Path.{_≡_, refl, sym, ap, _∙_, subst}
-use Prim.Native.Nat.{ℕ, zero, suc, _+_, _*_, _/_, _^_, _≤_, _<_}
-use native.Mathlib.Nat.{le-trans, le-of-eq, le-refl, lt-of-lt-of-le, lt-of-le-of-lt, le-step, lt-suc-self, one-mul, mul-one, add-mul, mul-le-mul-right, div-mul-le-self}
+use Prim.Native.Nat.{ℕ, zero, suc, _+_, _*_, _^_, _≤_, _<_}
+use native.Mathlib.Nat.{le-trans, le-of-eq, le-refl, lt-of-lt-of-le, lt-of-le-of-lt, le-step, lt-suc-self, one-mul, mul-le-mul-right}
 use native.Mathlib.Omega.{arith}
 use mathlib.Core.Bool.{Bool, true, false}
-use lib.Dec.{T, lit<, lit≤}
+use lib.Dec.{lit<, lit≤}
 use lib.IntN.{pos}
 use lib.Pow.{pow-add}
-use lib.Ieee.{Float, inf, binary64, fits, lt, add, sub, mul, div, ofInt}
+use lib.Ieee.{Float, binary64, fits, lt, sub, ofInt}
 use lib.Ieee.Bits.{is-true}
 use lib.Ieee.Fits.{add-fits, div-fits, inf-fits}
-use lib.Ieee.Scale.{finite}
 use Rattle.ieee.specs.Bounds.{Upto, NotNegative, Holds}
 use Rattle.ieee.specs.Sum.{sumTo, squaredDifference}
-use Rattle.ieee.proofs.Bound.{add-upto, sub-upto, mul-upto, mean-upto, sumTo-upto, upto-finite, upto-mono}
+use Rattle.ieee.proofs.Bound.{sub-upto, mul-upto, mean-upto, sumTo-upto, upto-finite, upto-mono}
 use Rattle.ieee.proofs.Whole.{whole-value, value-at-most}
 use Rattle.ieee.proofs.Sign.{square-not-negative, sumTo-not-negative}
 use Rattle.lloyd_search.specs.declared.Found.{Found}
 use Rattle.lloyd_search.specs.Distance.{distance}
 use Rattle.lloyd_search.specs.Nearest.{pick, firstLeast, nearest, meanError, Least}
-use Rattle.lloyd_search.specs.Finite.{FiniteDistance, FiniteNearest, everyFourth, total, FiniteTotals, FiniteMean}
+use Rattle.lloyd_search.specs.Finite.{FiniteDistance, FiniteNearest, FiniteMean}
 use Rattle.lloyd_search.proofs.NearestLaw.{first-least}
 
 -- ---- results are values of binary64
@@ -60,12 +59,6 @@ twice b = let p = pow-add 2 b 1 in omega arith
 squared : (b : ℕ) → 2 ^ (b + 1) * 2 ^ (b + 1) ≡ 2 ^ (2 * b + 2)
 squared b = sym (pow-add 2 (b + 1) (b + 1)) ∙ ap (λ (z : ℕ). 2 ^ z) (omega arith)
 
--- a sum of at most p of them and one of at most q
-both-upto : (x y : Float) (p q j : ℕ) → p + q < 2 ^ 53 → j + 53 ≤ 1024 → Upto x (p * 2 ^ j) → Upto y (q * 2 ^ j) → Upto (add binary64 x y) ((p + q) * 2 ^ j)
-both-upto x y p q j h r u v =
-    subst (Upto (add binary64 x y)) (sym (add-mul p q (2 ^ j)))
-    (add-upto binary64 x y (p * 2 ^ j) (q * 2 ^ j) (record { q = p + q; j = j; small = h; reach = r; is = sym (add-mul p q (2 ^ j)) }) u v)
-
 -- all k coordinates are at most 2 ^ b in size
 abbrev pub Bounded : ℕ → ℕ → (ℕ → Float) → Type 0
 Bounded b k x = (j : ℕ) → j < k → Upto (x j) (2 ^ b)
@@ -80,8 +73,8 @@ module _ (b : ℕ) (small : b ≤ 480) where
       subst (Upto (squaredDifference x y)) (squared b) (mul-upto binary64 (sub binary64 x y) (sub binary64 x y) (2 ^ (b + 1)) (2 ^ (b + 1)) (subst (Holds binary64) (sym (squared b)) (held (2 * b + 2) (omega arith))) d d)
 
   module _ (k : ℕ) (few : k ≤ 256) where
-    -- 256 coordinates
-    under : k * 2 ^ (2 * b + 2) ≤ 2 ^ (2 * b + 10)
+    -- what bounds a distance of at most 256 coordinates
+    pub under : k * 2 ^ (2 * b + 2) ≤ 2 ^ (2 * b + 10)
     under = le-trans (mul-le-mul-right (2 ^ (2 * b + 2)) few) (le-of-eq (sym (pow-add 2 8 (2 * b + 2)) ∙ ap (λ (z : ℕ). 2 ^ z) eight))
       where
         eight : 8 + (2 * b + 2) ≡ 2 * b + 10
@@ -120,35 +113,6 @@ module _ (b : ℕ) (small : b ≤ 480) where
 
       pub finite-nearest : (x : ℕ → Float) → Bounded b k x → FiniteNearest k n book x
       finite-nearest x h = record { distances = λ i l. finite-distance x (book i) h (g i l); found = upto-finite (nearest k n book x .distance) (k * 2 ^ (2 * b + 2)) (nearest-upto x h) }
-
-      module _ (x : ℕ → Float) (h : Bounded b k x) (small-book : n ≤ 1048576) where
-        abbrev far : ℕ → Float
-        far i = distance k x (book i)
-
-        fourth-upto : (r m : ℕ) → r < 4 → m ≤ n / 4 → Upto (everyFourth far r m) (m * 2 ^ (2 * b + 10))
-        fourth-upto r m l u =
-            let w = div-mul-le-self n 4 in
-            let each : (t : ℕ) → t < m → Upto (far (t * 4 + r)) (2 ^ (2 * b + 10)) = λ t i. upto-mono (far (t * 4 + r)) (k * 2 ^ (2 * b + 2)) (2 ^ (2 * b + 10)) (distance-upto x (book (t * 4 + r)) h (g (t * 4 + r) (omega arith)) k (le-refl k)) under in
-            sumTo-upto (λ t. far (t * 4 + r)) m (2 * b + 10) each (lt-of-le-of-lt (le-trans (omega arith) small-book) (lit< tt)) (omega arith)
-
-        pair-upto : (r s : ℕ) → r < 4 → s < 4 → Upto (add binary64 (everyFourth far r (n / 4)) (everyFourth far s (n / 4))) ((n / 4 + n / 4) * 2 ^ (2 * b + 10))
-        pair-upto r s l u =
-            let w = div-mul-le-self n 4 in
-            both-upto (everyFourth far r (n / 4)) (everyFourth far s (n / 4)) (n / 4) (n / 4) (2 * b + 10) (lt-of-le-of-lt (le-trans (omega arith) small-book) (lit< tt)) (omega arith)
-            (fourth-upto r (n / 4) l (le-refl (n / 4))) (fourth-upto s (n / 4) u (le-refl (n / 4)))
-
-        total-upto : Upto (total far (n / 4)) ((n / 4 + n / 4 + (n / 4 + n / 4)) * 2 ^ (2 * b + 10))
-        total-upto =
-            let w = div-mul-le-self n 4 in
-            both-upto _ _ (n / 4 + n / 4) (n / 4 + n / 4) (2 * b + 10) (lt-of-le-of-lt (le-trans (omega arith) small-book) (lit< tt)) (omega arith) (pair-upto 0 1 (lit< tt) (lit< tt)) (pair-upto 2 3 (lit< tt) (lit< tt))
-
-        pub finite-totals : FiniteTotals far n
-        finite-totals = record {
-          fourths = λ r m l u. upto-finite (everyFourth far r m) (m * 2 ^ (2 * b + 10)) (fourth-upto r m l u);
-          first-pair = upto-finite (add binary64 (everyFourth far 0 (n / 4)) (everyFourth far 1 (n / 4))) ((n / 4 + n / 4) * 2 ^ (2 * b + 10)) (pair-upto 0 1 (lit< tt) (lit< tt));
-          second-pair = upto-finite (add binary64 (everyFourth far 2 (n / 4)) (everyFourth far 3 (n / 4))) ((n / 4 + n / 4) * 2 ^ (2 * b + 10)) (pair-upto 2 3 (lit< tt) (lit< tt));
-          whole = upto-finite (total far (n / 4)) ((n / 4 + n / 4 + (n / 4 + n / 4)) * 2 ^ (2 * b + 10)) total-upto;
-        }
 
       module _ (samples : ℕ → ℕ → Float) (S : ℕ) (h : (s : ℕ) → s < S → Bounded b k (samples s)) (many : S ≤ 10000000) where
         -- the sum of the distances of the first m samples

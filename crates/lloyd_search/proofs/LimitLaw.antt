@@ -1,19 +1,23 @@
--- What the check of magnitude lets pass, for the limit 2 ^ b, is at most 2 ^ b in size. Assumes nothing.
+-- What the check of magnitude lets pass, for the limit 2 ^ b, is at most 2 ^ b in size; and a completed call has
+-- passed it. Assumes nothing.
 use mathlib.Core.Path.{_≡_, refl, sym, subst}
 use Prim.Native.Nat.{ℕ, _*_, _^_, _≤_, _<_}
-use native.Mathlib.Nat.{le-of-lt, le-of-eq, le-trans, one-mul, mul-one}
+use native.Mathlib.Nat.{le-of-lt, le-of-eq, one-mul}
 use mathlib.Core.Bool.{Bool, true, false, not, _&&_, _||_}
-use mathlib.Core.List.{List}
+use mathlib.Core.List.{List, [], _∷_}
 use lib.Dec.{T, ltb, eqb, ltb→lt, eqb→eq}
-use lib.IntN.{ℤ, pos}
+use lib.IntN.{pos}
 use lib.ListN.{length, getD}
 use lib.Ieee.{Float, nan, inf, fin, up, down, lt, eq, le, neg}
 use lib.Ieee.Fits.{and-l, and-r}
 use borrow.Author.Tests.{not-false}
+use Rattle.error.specs.Numbers.{Outcome, completed, whole}
+use Rattle.error.proofs.Outcomes.{never}
 use Rattle.ieee.specs.Bounds.{Upto}
 use Rattle.ieee.proofs.Value.{holds-true}
-use Rattle.slices.specs.declared.First.the-variants.{Nowhere}
-use Rattle.slices.specs.Limit.{within, firstOutside}
+use Rattle.slices.specs.declared.First.{First}
+use Rattle.slices.specs.declared.First.the-variants.{Nowhere, At}
+use Rattle.slices.specs.Limit.{within, firstOutside, bounded}
 use Rattle.slices.proofs.FirstLaw.{none-before}
 
 -- 2 ^ b as a float
@@ -53,3 +57,9 @@ within-upto b x h =
 -- no place outside: every value is within
 pub all-within : (b : ℕ) (xs : List Float) → firstOutside (power b) xs ≡ Nowhere → (i : ℕ) → i < length xs → Upto (getD xs i nan) (2 ^ b)
 all-within b xs h i l = within-upto b (getD xs i nan) (not-false _ (none-before (λ j. not (within (power b) (getD xs j nan))) (length xs) h i l))
+
+-- a completed call has passed the check
+pub passed-bounded : {A : Type 0} (slice : ℕ) (f : First) (rest : Outcome A) (r : A) → bounded slice f rest ≡ completed r
+    → (f ≡ Nowhere) × (rest ≡ completed r)
+passed-bounded slice Nowhere rest r e = (refl, e)
+passed-bounded slice (At place) rest r e = absurd (never 18 (whole slice ∷ whole place ∷ []) r e)

@@ -1,5 +1,5 @@
 -- A row of a list, handed over as a part of a slice; distance and nearest see coordinates only. Assumes nothing.
-use mathlib.Core.Path.{_≡_, refl, sym, ap, _∙_}
+use mathlib.Core.Path.{_≡_, refl, ap, _∙_}
 use Prim.Native.Nat.{ℕ, zero, suc, _+_, _-_, _*_, _≤_, _<_}
 use native.Mathlib.Nat.{add-mul, suc-mul, mul-le-mul-right, le-step, lt-suc-self}
 use native.Mathlib.Omega.{arith}
@@ -10,7 +10,7 @@ use lib.Ieee.{Float, nan}
 use Rattle.ieee.proofs.Bound.{sumTo-ext}
 use Rattle.lloyd_search.specs.Distance.{distance, vectorOf, rowOf}
 use Rattle.ieee.specs.Sum.{squaredDifference}
-use Rattle.lloyd_search.specs.Nearest.{pick, firstLeast, nearest}
+use Rattle.lloyd_search.specs.Nearest.{firstLeast, nearest}
 
 -- row i of n lies within the list
 pub row-fits : (i n k at L : ℕ) → i < n → at ≡ i * k → L ≡ n * k → at + k ≤ L

@@ -1,6 +1,5 @@
 pub mod Distance
 pub mod Nearest
 pub mod Four
+pub mod Shape
 pub mod Finite
-pub mod Watch
-pub mod Answers

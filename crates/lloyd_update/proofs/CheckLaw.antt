@@ -13,9 +13,9 @@ use Rattle.slices.specs.declared.First.the-variants.{Nowhere, At}
 use Rattle.slices.specs.First.{firstWhere}
 use Rattle.slices.specs.Limit.{firstOutside}
 use Rattle.slices.proofs.FirstLaw.{none-before}
-use Rattle.lloyd_search.specs.Answers.{codebookShaped, samplesShaped}
+use Rattle.lloyd_search.specs.Shape.{codebookShaped, samplesShaped}
 use Rattle.lloyd_search.proofs.ShapeLaw.{Codebook, Samples, codebook-shape, samples-shape}
-use Rattle.lloyd_search.proofs.AnswersLaw.{passed-bounded}
+use Rattle.lloyd_search.proofs.LimitLaw.{passed-bounded}
 use Rattle.lloyd_update.specs.Alone.{Call, updateLimit, assigned, valueChecks, updateChecks}
 
 pub record Passed (c : Call) : Type 0 where

@@ -16,7 +16,7 @@ use Rattle.slices.specs.Limit.{firstOutside, bounded}
 use Rattle.slices.specs.Lists.{wordsOf}
 use Rattle.profile.specs.declared.EmptyCellPolicy.{EmptyCellPolicy}
 use Rattle.lloyd_search.specs.Distance.{rowOf}
-use Rattle.lloyd_search.specs.Answers.{codebookShaped, samplesShaped}
+use Rattle.lloyd_search.specs.Shape.{codebookShaped, samplesShaped}
 use Rattle.lloyd_events.specs.declared.LloydRepairEvent.{LloydRepairEvent}
 use Rattle.lloyd_events.specs.Events.{zeroEvent}
 use Rattle.lloyd_cells.specs.Repair.{Cells, Terms, Repaired}

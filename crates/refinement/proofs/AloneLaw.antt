@@ -20,7 +20,7 @@ use Rattle.slices.proofs.FirstLaw.{nowhere}
 use Rattle.slices.proofs.TabulateLaw.{length-tabulate}
 use Rattle.profile.specs.declared.EmptyCellPolicy.{EmptyCellPolicy}
 use Rattle.lloyd_search.specs.Distance.{rowOf}
-use Rattle.lloyd_search.specs.Answers.{codebookShaped, samplesShaped}
+use Rattle.lloyd_search.specs.Shape.{codebookShaped, samplesShaped}
 use Rattle.lloyd_cells.specs.Repair.{Cells, Terms, Repaired, donorTo, leastNorm, residualNorm, repairBy, turn, repairTo}
 use Rattle.lloyd_cells.specs.Update.{means, farthestSample, failsClosed, emptyCells, updated}
 use Rattle.lloyd_cells.proofs.TallyLaw.{splitBy}

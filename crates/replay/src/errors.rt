@@ -5,8 +5,8 @@ use crate::answer::Verdict;
 use crate::parts;
 use crate::reader;
 use crate::reader::Reader;
-use lloyd_search::CodebookError;
-use lloyd_search::NearestCodeword;
+use lloyd_alone::CodebookError;
+use lloyd_alone::NearestCodeword;
 use metrics::MeanError;
 
 // A float or a refusal, against what was recorded: answer, result (8 bytes).
@@ -55,7 +55,7 @@ pub fn nearest(file: &[u8], r: Reader) -> Verdict {
     let index = reader::number(file, recorded.next, 4);
     let distance = reader::number(file, index.next, 8);
     let values = parts::doubles(&codewords, n);
-    match lloyd_search::nearest_index(values, size.value, dim.value, parts::doubles(&block, m)) {
+    match lloyd_alone::nearest_index(values, size.value, dim.value, parts::doubles(&block, m)) {
         NearestCodeword::Nearest(found) => {
             let same_index = found.index as u64 == index.value;
             let same_distance = patterns::f64_bits(found.distance) == distance.value;
@@ -84,7 +84,7 @@ pub fn mean_error(file: &[u8], r: Reader) -> Verdict {
     let mut samples = [0.0; 32];
     let next = reader::doubles(file, samples_len.next, m, &mut samples);
     let values = parts::doubles(&codewords, n);
-    match lloyd_search::mse_for_codebook(
+    match lloyd_alone::mse_for_codebook(
         values,
         size.value,
         dim.value,

@@ -3,7 +3,7 @@ use mathlib.Core.Path.{_≡_, sym, _∙_}
 use mathlib.Core.Bool.{true, false}
 use lib.ListN.{length}
 use borrow.Author.Tests.{not-true, not-false}
-use Rattle.lloyd_search.specs.Answers.{codebookShaped}
+use Rattle.lloyd_search.specs.Shape.{codebookShaped}
 use Rattle.codebook.specs.Codebook.{codewordsAlone}
 use borrow.Author.Needs.{needs}
 use Rattle.codebook.proofs.check_codewords.Statement.{statement}

@@ -9,7 +9,7 @@ use lib.Ieee.{Float, nan}
 use borrow.Author.Tests.{not-true, not-false, eq-eqb, ne-eqb, lt-ltb, le-ltb}
 use Rattle.slices.specs.Lists.{tabulate, patched}
 use Rattle.slices.proofs.ListLaw.{patched-all}
-use Rattle.lloyd_search.specs.Answers.{codebookShaped}
+use Rattle.lloyd_search.specs.Shape.{codebookShaped}
 use Rattle.lloyd_search.specs.Distance.{rowOf}
 use Rattle.lloyd_search.proofs.ShapeLaw.{codebook-shape}
 use Rattle.lloyd_search.proofs.Parts.{row-fits}

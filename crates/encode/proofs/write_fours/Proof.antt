@@ -11,8 +11,8 @@ use Rattle.bitpack.proofs.Packing.{packed-binary}
 use Rattle.bitpack.proofs.Steps.{writing-length}
 use Rattle.lloyd_search.specs.declared.Found.{Found}
 use Rattle.lloyd_search.specs.Distance.{rowOf}
-use Rattle.lloyd_search.specs.Four.{FourNearest}
-use Rattle.lloyd_search.proofs.FourBlocks.{part-four-nearest}
+use Rattle.lloyd_search_f32.specs.Four.{FourNearest}
+use Rattle.lloyd_search_f32.proofs.FourBlocks.{part-four-nearest}
 use Rattle.encode.specs.Encode.{indexFor, indicesFor}
 use Rattle.encode.proofs.IndexLaw.{packing, Pushes, index-small, index-pushable, index-pushed}
 use borrow.Author.Needs.{needs}

@@ -1,10 +1,10 @@
 -- `lloyd_search::four_distances` meets its contract: each sum is that of the coordinates passed. Assumes nothing.
-use mathlib.Core.Path.{_≡_, refl, sym, ap, _∙_}
-use Prim.Native.Nat.{ℕ, _≤_, _-_}
+use mathlib.Core.Path.{_≡_, refl}
+use Prim.Native.Nat.{_≤_, _-_}
 use native.Mathlib.Omega.{arith}
 use native.Mathlib.Numerals.{add-one}
 use lib.ListN.{length}
-use lib.Ieee.{Float, ofBits}
+use lib.Ieee.{ofBits}
 use borrow.Author.Needs.{needs}
 use Rattle.ieee.specs.Sum.{sumTo}
 use Rattle.lloyd_search.specs.Distance.{distance, vectorOf}

@@ -1,16 +1,15 @@
 -- `lloyd_search::mean_error` meets its contract: the sum is that of the samples passed. Assumes nothing.
 use mathlib.Core.Path.{_≡_, refl, sym, ap, _∙_}
-use Prim.Native.Nat.{ℕ, _≤_, _<_, _-_, _+_, _*_, _/_}
+use Prim.Native.Nat.{ℕ, _≤_, _-_, _+_, _*_, _/_}
 use native.Mathlib.Nat.{div-le-self}
 use native.Mathlib.Omega.{arith}
 use native.Mathlib.Numerals.{add-one}
 use lib.ListN.{length}
-use lib.Ieee.{Float, ofBits}
+use lib.Ieee.{ofBits}
 use borrow.Author.Needs.{needs}
 use Rattle.ieee.specs.Sum.{sumTo}
-use Rattle.lloyd_search.specs.declared.Found.{Found}
-use Rattle.lloyd_search.specs.Distance.{distance, vectorOf, rowOf}
-use Rattle.lloyd_search.specs.Nearest.{firstLeast, nearest}
+use Rattle.lloyd_search.specs.Distance.{distance, rowOf}
+use Rattle.lloyd_search.specs.Nearest.{nearest}
 use Rattle.lloyd_search.proofs.Parts.{row-fits, next-row, part-length, part-nearest}
 use Rattle.lloyd_search.proofs.mean_error.Statement.{statement}
 use Rattle.lloyd_search.proofs.mean_error.Tie as tie

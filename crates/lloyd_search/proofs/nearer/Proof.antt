@@ -1,5 +1,4 @@
 -- `lloyd_search::nearer` meets its contract. Assumes nothing.
-use mathlib.Core.Path.{_≡_, refl}
 use Rattle.lloyd_search.proofs.nearer.Statement.{statement}
 use Rattle.lloyd_search.proofs.nearer.Tie as tie
 

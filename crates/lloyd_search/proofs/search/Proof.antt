@@ -4,9 +4,7 @@ use Prim.Native.Nat.{ℕ, _≤_, _-_, _+_, _*_}
 use native.Mathlib.Nat.{div-mul-le-self}
 use native.Mathlib.Omega.{arith}
 use lib.ListN.{length}
-use lib.Ieee.{Float}
 use borrow.Author.Needs.{needs}
-use Rattle.lloyd_search.specs.declared.Found.{Found}
 use Rattle.lloyd_search.specs.Distance.{distance, vectorOf, rowOf}
 use Rattle.lloyd_search.specs.Nearest.{nearest}
 use Rattle.lloyd_search.proofs.Parts.{row-fits, next-row, part-length, part-distance}

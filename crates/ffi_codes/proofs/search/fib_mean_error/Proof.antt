@@ -1,7 +1,7 @@
 -- `ffi_codes::search::fib_mean_error` meets its contract, by the two cases of the answer. Assumes nothing.
 use mathlib.Core.Path.{refl, sym, ap, _∙_}
 use lib.Ieee.{ofBits}
-use Rattle.lloyd_search.specs.Answers.{errorOf}
+use Rattle.lloyd_alone.specs.Answers.{codebookErrorOf}
 use Rattle.ffi_crossing.specs.Crossing.{crossed, none, oneReal}
 use Rattle.ffi_crossing.proofs.CrossingLaws.{one-real, same-refusal}
 use borrow.Author.Needs.{needs}
@@ -26,13 +26,13 @@ put-refusal-requires c κs = search needs
 returns : tie.Need-returns
 unfolding ofBits
 returns c =
-    let e = sym (ap errorOf (c .before .before .before .before .answer .given .1)) ∙ c .before .before .before .before .before .before .mse-for-codebook .ensures in
+    let e = sym (ap codebookErrorOf (c .before .before .before .before .answer .given .1)) ∙ c .before .before .before .before .before .before .mse-for-codebook .ensures in
     c .put .ensures ∙ one-real refl ∙ ap (crossed oneReal) e
 
 returns-2 : tie.Need-returns-2
 returns-2 c =
     let r = c .before .before .before .before .answer2 .given in
-    c .put-refusal .ensures ∙ same-refusal none oneReal (r .0 .0) ∙ ap (crossed oneReal) (sym (ap errorOf (r .1)) ∙ c .before .before .before .before .before .before .mse-for-codebook .ensures)
+    c .put-refusal .ensures ∙ same-refusal none oneReal (r .0 .0) ∙ ap (crossed oneReal) (sym (ap codebookErrorOf (r .1)) ∙ c .before .before .before .before .before .before .mse-for-codebook .ensures)
 
 pub fib-mean-error-spec : {M : Type 1} → statement M
 fib-mean-error-spec =

@@ -1,7 +1,7 @@
 -- `ffi_codes::search::fib_nearest` meets its contract, by the two cases of the answer. Assumes nothing.
 use mathlib.Core.Path.{sym, ap, _∙_}
 use lib.Ieee.{ofBits}
-use Rattle.lloyd_search.specs.Answers.{nearestOf}
+use Rattle.lloyd_alone.specs.Answers.{nearestOf}
 use Rattle.ffi_crossing.specs.Crossing.{crossed, none, wholeValues, realValues}
 use Rattle.ffi_codes.specs.Search.{foundIn}
 use Rattle.ffi_crossing.proofs.CrossingLaws.{same-refusal}

@@ -1,0 +1,5 @@
+mod SmallLaw
+mod TournamentLaw
+mod WatchLaw
+mod TotalsLaw
+pub mod AnswersLaw

@@ -1,0 +1,4 @@
+pub mod Tournament
+pub mod Totals
+pub mod Watch
+pub mod Answers

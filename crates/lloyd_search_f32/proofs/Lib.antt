@@ -1,0 +1,2 @@
+mod WidenLaw
+pub mod FourBlocks

@@ -1,0 +1,117 @@
+-- `lloyd_search_f32::search_f32` meets its contract: from what the fours give, the best so far is the first least of the codewords passed. Assumes nothing.
+use mathlib.Core.Path.{_≡_, refl, sym, ap, _∙_}
+use Prim.Native.Nat.{ℕ, _≤_, _-_, _+_, _*_}
+use native.Mathlib.Nat.{div-mul-le-self}
+use native.Mathlib.Omega.{arith}
+use lib.ListN.{length}
+use borrow.Author.Needs.{needs}
+use Rattle.lloyd_search.specs.Distance.{distance, vectorOf, rowOf}
+use Rattle.lloyd_search.specs.Nearest.{nearest}
+use Rattle.lloyd_search.proofs.Parts.{row-fits, next-row, part-length, part-distance}
+use Rattle.lloyd_search_f32.proofs.WidenLaw.{part-finite}
+use Rattle.lloyd_search.proofs.Fours.{fours-fit}
+use Rattle.lloyd_search.proofs.NearestLaw.{one-more}
+use Rattle.lloyd_search_f32.proofs.search_f32.Statement.{statement}
+use Rattle.lloyd_search_f32.proofs.search_f32.Tie as tie
+
+abbrev Inv-loop : tie.InvT-loop
+Inv-loop codewords n block k best₀ i₀ at₀ best i at =
+    (i ≤ n) × (at ≡ i * length block) × (best ≡ nearest (length block) i (rowOf (length block) codewords) (vectorOf block))
+
+abbrev μ-loop : tie.MeasureT-loop
+μ-loop codewords n block k best₀ i₀ at₀ best i at = n - i
+
+search-fours-f32-requires : tie.Need-search-fours-f32-requires Inv-loop μ-loop
+search-fours-f32-requires c κs =
+    let s = c .before .before in
+    let h = fours-fit (s .args .n) (length (s .args .block .now)) (length (s .args .codewords .now)) (s .fits .n .fits) (s .pre .0) in
+    (h .0, h .1, s .pre .1)
+
+mul-i : tie.Need-mul-i Inv-loop μ-loop
+mul-i c = record { fits = omega (arith, div-mul-le-self (c .before .before .before .args .n) 4, c .before .before .before .fits .n .fits) }
+
+mul-at : tie.Need-mul-at Inv-loop μ-loop
+mul-at c =
+    let a = c .before .before .before .args in
+    let h = fours-fit (a .n) (length (a .block .now)) (length (a .codewords .now)) (c .before .before .before .fits .n .fits) (c .before .before .before .pre .0) in
+    record { fits = omega (arith, h .1, c .before .before .before .good .0 .0) }
+
+loop-holds : tie.Need-loop-holds Inv-loop μ-loop
+loop-holds c = (div-mul-le-self (c .before .before .before .args .n) 4, refl, c .search-fours-f32 .ensures)
+
+inside : (c : tie.In-loop Inv-loop μ-loop) → c .before .loop .at + length (c .before .before .before .before .before .args .block .now) ≤ length (c .before .before .before .before .before .args .codewords .now)
+inside c =
+    let a = c .before .before .before .before .before .args in
+    row-fits (c .before .loop .i) (a .n) (length (a .block .now)) (c .before .loop .at) (length (a .codewords .now)) (c .loop-test .taken) (c .before .loop .inv .1) (c .before .before .before .before .before .pre .0)
+
+add-end : tie.Need-add-end Inv-loop μ-loop
+add-end c = record { fits = omega (arith, inside c) }
+
+mul-squared-distance-f32 : tie.Need-mul-squared-distance-f32 Inv-loop μ-loop
+mul-squared-distance-f32 c = record { fits = omega (arith, inside c, c .before .before .before .before .before .good .0 .1) }
+
+sub-squared-distance-f32 : tie.Need-sub-squared-distance-f32 Inv-loop μ-loop
+sub-squared-distance-f32 c = search needs
+
+part-squared-distance-f32-start : tie.Need-part-squared-distance-f32-start Inv-loop μ-loop
+part-squared-distance-f32-start c = search needs
+
+part-squared-distance-f32-end : tie.Need-part-squared-distance-f32-end Inv-loop μ-loop
+part-squared-distance-f32-end c = inside c
+
+squared-distance-f32-requires : tie.Need-squared-distance-f32-requires Inv-loop μ-loop
+squared-distance-f32-requires c κs =
+    let l = c .before .before in
+    let s = l .before .before .before .before in
+    let k = length (s .args .block .now) in
+    (sym (part-length (s .args .codewords .now) (l .loop .i) k (l .loop .at) (l .loop .inv .1) (inside (c .before))), part-finite (s .args .codewords .now) (l .loop .i) k (l .loop .at) (l .loop .inv .1) (inside (c .before)) (s .pre .1))
+
+nearer-requires : tie.Need-nearer-requires Inv-loop μ-loop
+nearer-requires c κs = tt
+
+add-i : tie.Need-add-i Inv-loop μ-loop
+add-i c = search needs
+
+loop-less : tie.Need-loop-less Inv-loop μ-loop
+loop-less c = search needs
+
+loop-again : tie.Need-loop-again Inv-loop μ-loop
+loop-again c =
+    let l = c .before .before .before .before .loop in
+    let a = c .before .before .before .before .before .before .before .before .args in
+    let x = vectorOf (a .block .now) in
+    let k = length (a .block .now) in
+    let cw = a .codewords .now in (
+      search needs,
+      next-row (l .i) k (l .at) _ (l .inv .1) refl,
+      one-more (λ m. distance k x (rowOf k cw m)) (l .i) (l .i + 1) (l .best) (c .nearer .result) (c .before .squared-distance-f32 .result) refl (l .inv .2)
+          (c .before .squared-distance-f32 .ensures ∙ part-distance x cw (l .i) k (l .at) (l .inv .1)) (c .nearer .ensures),
+    )
+
+returns : tie.Need-returns Inv-loop μ-loop
+returns c =
+    let a = c .before .before .before .before .before .args in
+    let e : c .before .loop .i ≡ a .n = omega arith in
+    c .before .loop .inv .2 ∙ ap (λ (m : ℕ). nearest (length (a .block .now)) m (rowOf (length (a .block .now)) (a .codewords .now)) (vectorOf (a .block .now))) e
+
+pub search-f32-spec : {M : Type 1} → statement M
+search-f32-spec =
+    tie.close
+    (tie.spec
+    Inv-loop
+    μ-loop
+    search-fours-f32-requires
+    mul-i
+    mul-at
+    loop-holds
+    add-end
+    mul-squared-distance-f32
+    sub-squared-distance-f32
+    part-squared-distance-f32-start
+    part-squared-distance-f32-end
+    squared-distance-f32-requires
+    nearer-requires
+    add-i
+    loop-less
+    loop-again
+    returns)
