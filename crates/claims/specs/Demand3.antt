@@ -5,13 +5,12 @@ use Prim.Native.Nat.{ℕ}
 use mathlib.Core.List.{List}
 use lib.Ieee.{Float}
 use Rattle.error.specs.Numbers.{completed}
-use Rattle.profile.specs.declared.FibQuantProfile.{FibQuantProfile}
 use Rattle.lloyd_refine.specs.Refine.{Job}
 use Rattle.lloyd_update.specs.Alone.{Call, updateChecks}
 use Rattle.history.specs.History.{Request, History}
 use Rattle.rule.specs.Rule.{Rule}
 use Rattle.refinement.specs.Refinement.{AnyRefinement}
-use Rattle.encode.specs.Encode.{encoding}
+use Rattle.encode.specs.Encode.{EncodeCall, encoding}
 use Rattle.codes.specs.Codes.{EncodedBlocks}
 
 pub record Demand3 : Type 0 where
@@ -21,6 +20,6 @@ pub record Demand3 : Type 0 where
   pub rules : (call : Call) → updateChecks call ≡ completed tt → Rule call
   -- An accepted refinement returns the codebook, and the error, of least mean error, measured before narrowing, among its start and its restarts' ends: every other has no less, every earlier one more. The rounds of each restart are a history.
   pub refinements : (job : Job) → AnyRefinement job
-  -- Every encoded block gets the first codeword that none is strictly nearer than, by the rounded distance; said of the frame's bytes.
-  pub blocks : (p : FibQuantProfile) (schema algorithm : List ℕ) (log2 : Float) (matrix codewords input : List Float) (output work : ℕ) (frame : List ℕ)
-      → encoding p schema algorithm log2 matrix codewords input output work ≡ completed frame → EncodedBlocks p matrix codewords input frame
+  -- Every encoded block gets the first codeword that none is strictly nearer than, by the rounded distance; said of the
+  -- frame's bytes.
+  pub blocks : (call : EncodeCall) (frame : List ℕ) → encoding call ≡ completed frame → EncodedBlocks call frame

@@ -1,21 +1,16 @@
--- What an accepted codebook and an accepted call of `codeword` have shown. Assumes nothing.
+-- Which values are finite, and what it says that none is found that is not. Assumes nothing.
 use mathlib.Core.Path.{_≡_, refl, sym, subst}
 use Prim.Native.Nat.{ℕ, _<_}
 use mathlib.Core.Bool.{true, false, not, _&&_}
-use mathlib.Core.List.{List, [], _∷_}
-use lib.Dec.{T, ltb, eqb}
+use mathlib.Core.List.{List}
+use lib.Dec.{T}
 use lib.ListN.{length, getD}
 use lib.Ieee.{Float, nan, inf, fin, lt}
 use lib.Ieee.Scale.{finite}
-use borrow.Author.Tests.{not-false, ltb-true, eqb-true}
-use Rattle.error.specs.Numbers.{completed, whole}
-use Rattle.error.proofs.Outcomes.{passed}
+use borrow.Author.Tests.{not-false}
 use Rattle.slices.specs.declared.First.the-variants.{Nowhere}
 use Rattle.slices.proofs.FirstLaw.{none-before}
-use Rattle.lloyd_search.specs.Shape.{codebookShaped}
-use Rattle.lloyd_search.proofs.ShapeLaw.{Codebook, codebook-shape}
-use Rattle.lloyd_search.proofs.LimitLaw.{passed-bounded}
-use Rattle.codebook.specs.Codebook.{firstNotFinite, codewordAlone, codewordsAlone}
+use Rattle.codebook.specs.Codebook.{firstNotFinite}
 
 -- between the infinities
 pub finite-is : (x : Float) → lt (inf true) x && lt x (inf false) ≡ finite x
@@ -28,27 +23,3 @@ finite-is (fin s m e) = refl
 -- where no place is found, every value is finite
 pub all-finite : (xs : List Float) → firstNotFinite xs ≡ Nowhere → (i : ℕ) → i < length xs → T (finite (getD xs i nan))
 all-finite xs e i h = subst T (sym (not-false (finite (getD xs i nan)) (none-before (λ j. not (finite (getD xs j nan))) (length xs) e i h))) tt
-
-pub record CodewordsAccepted (n k : ℕ) (codewords : List Float) : Type 0 where
-  pub shape : Codebook n k (length codewords)
-  pub values-finite : (i : ℕ) → i < length codewords → T (finite (getD codewords i nan))
-
-pub codewords-accepted : (n k : ℕ) (codewords : List Float) → codewordsAlone n k codewords ≡ completed tt → CodewordsAccepted n k codewords
-unfolding codewordsAlone
-codewords-accepted n k codewords e =
-    let a = passed (not (codebookShaped n k (length codewords))) 7 (whole 4 ∷ []) _ tt e in
-    let b = passed-bounded 4 (firstNotFinite codewords) _ tt (a .1) in
-    record { shape = codebook-shape n k (length codewords) (not-false _ (a .0)); values-finite = all-finite codewords (b .0) }
-
-pub record CodewordAccepted (n k : ℕ) (codewords : List Float) (index values : ℕ) : Type 0 where
-  pub shape : Codebook n k (length codewords)
-  pub room : values ≡ k
-  pub index-below : index < n
-
-pub codeword-accepted : (n k : ℕ) (codewords : List Float) (index values : ℕ) → codewordAlone n k codewords index values ≡ completed tt → CodewordAccepted n k codewords index values
-unfolding codewordAlone
-codeword-accepted n k codewords index values e =
-    let a = passed (not (codebookShaped n k (length codewords))) 7 (whole 4 ∷ []) _ tt e in
-    let b = passed (not (eqb values k)) 7 (whole 6 ∷ []) _ tt (a .1) in
-    let c = passed (not (ltb index n)) 11 (whole index ∷ whole n ∷ []) _ tt (b .1) in
-    record { shape = codebook-shape n k (length codewords) (not-false _ (a .0)); room = eqb-true values k (not-false _ (b .0)); index-below = ltb-true index n (not-false _ (c .0)) }

@@ -73,7 +73,8 @@ pub fn first_not_finite(s: &[f32]) -> First
 // Public only for the crates above: k values from `at` on, widened, to the places of the output from `to` on.
 pub fn widen_row(codewords: &[f32], at: usize, k: usize, output: &mut [f64], to: usize)
     requires { ⌜ (at + k ≤ length (now codewords)) × (to + k ≤ length (now output)) ⌝ }
-    ensures { λ r. ⌜ now (output .exit) ≡ patched (now (output .entry)) to k (λ j. getD (now (codewords .entry)) (at + j) nan) ⌝ }
+    ensures { λ r. ⌜ now (output .exit)
+        ≡ patched (now (output .entry)) to k (λ j. getD (now (codewords .entry)) (at + j) nan) ⌝ }
 {
     let mut j = 0usize;
     while j < k {
@@ -91,8 +92,11 @@ pub fn codeword(
     index: u32,
     output: &mut [f64],
 ) -> Checked
-    ensures { λ r. ⌜ checked r ≡ codewordAlone «codebook_size» «block_dim» (now (codewords .entry)) index (length (now (output .entry))) ⌝ }
-    ensures { λ r. ⌜ now (output .exit) ≡ ifCompleted (codewordAlone «codebook_size» «block_dim» (now (codewords .entry)) index (length (now (output .entry)))) (tabulate «block_dim» (rowOf «block_dim» (now (codewords .entry)) index)) (now (output .entry)) ⌝ }
+    ensures { λ r. ⌜ (let answer = codewordAlone «codebook_size» «block_dim» (now (codewords .entry)) index
+        (length (now (output .entry))) in
+        (checked r ≡ answer)
+        × (now (output .exit) ≡ ifCompleted answer
+        (tabulate «block_dim» (rowOf «block_dim» (now (codewords .entry)) index)) (now (output .entry)))) ⌝ }
 {
     if !lloyd_search::codebook_shaped(codebook_size, block_dim, codewords.len()) {
         return Checked::Refused(Refusal::SliceLength(names::CODEWORDS_SLICE));

@@ -10,8 +10,8 @@ use lib.ListN.{length, getD}
 use lib.Ieee.{Float, nan, eq}
 use lib.Ieee.Scale.{finite}
 use borrow.Author.Tests.{eq-eqb, lt-ltb}
-use Rattle.error.specs.Numbers.{Outcome, completed, refused, andThen}
-use Rattle.error.proofs.Outcomes.{passed, completed-same}
+use Rattle.error.specs.Numbers.{completed, whole}
+use Rattle.error.proofs.Outcomes.{never, completed-same, passed, then-completed}
 use Rattle.error.proofs.Refusals.{also-first, also-next}
 use Rattle.ieee.specs.Sum.{plusZero}
 use Rattle.slices.specs.declared.First.{First}
@@ -24,19 +24,18 @@ use Rattle.bitpack.proofs.Fields.{field-zero, bit-field}
 use Rattle.bitpack.proofs.Packing.{packed-binary, packed-after, packed-byte, length-packed, unpack-pack}
 use Rattle.compact.specs.Frame.{Parts, parsed, bytesOf}
 use Rattle.compact.proofs.FrameLaws.{parse-written}
-use Rattle.profile.specs.declared.FibQuantProfile.{FibQuantProfile}
 use Rattle.codebook.specs.Codebook.{firstNotFinite}
 use Rattle.codebook.proofs.CodebookLaw.{all-finite}
 use Rattle.norm.specs.Norm.{normBits, normValue}
 use Rattle.norm.proofs.NormLaw.{norm-written, read-back}
-use Rattle.decode.specs.Decode.{below, indicesOf, indexed, readable, valued}
+use Rattle.decode.specs.Decode.{below, indicesOf, indexed, readable}
 use Rattle.decode.specs.Decode as decode
-use Rattle.decode.proofs.CheckLaw.{clear, read-norm}
-use Rattle.encode.specs.Encode.{normOf, searched, indicesFor, frameFor, finiteInput, normed, codable, encoding}
-use Rattle.encode.proofs.AcceptLaw.{Codable, codable-accepted, indices-fit}
+use Rattle.decode.proofs.CheckLaw.{clear, read-norm, decoding-is, decodable-is}
+use Rattle.encode.specs.Encode.{EncodeCall, normOf, searched, indicesFor, frameFor, finiteInput, normed, fitting, codable, encoding}
+use Rattle.encode.proofs.AcceptLaw.{Fitting, fitting-accepted, indices-fit}
 use Rattle.lloyd_search.proofs.NearestLaw.{index-below}
 use Rattle.encode.proofs.EncodeLaw.{length-indices, getD-indices, index-fits}
-use Rattle.codes.specs.Codes.{Headed, RoundTrip}
+use Rattle.codes.specs.Codes.{Headed, decodingOf, RoundTrip}
 
 -- ---- packing sets no padding bit
 packed-stream : (xs : List ℕ) (w p : ℕ) → p < 8 * bytesFor (length xs * w) → streamBit (packedBytes xs w) p ≡ packedBit xs w p
@@ -53,7 +52,7 @@ no-padding xs w =
 -- ---- what an encoding that is completed has shown
 finite-input : (f : First) → finiteInput f ≡ completed tt → f ≡ Nowhere
 finite-input Nowhere e = refl
-finite-input (At place) e = let z : _≡_ {A = ℕ} 0 1 = cc in absurd (omega arith)
+finite-input (At place) e = absurd (never 12 (whole place ∷ []) tt e)
 
 pub record Normed (input : List Float) (bits : ℕ) : Type 0 where
   pub input-finite : (i : ℕ) → i < length input → T (finite (getD input i nan))
@@ -66,44 +65,46 @@ norm-passed input bits e =
     let b = also-next (finiteInput (firstNotFinite input)) _ e in
     record { input-finite = all-finite input (finite-input (firstNotFinite input) a); pattern = passed (eq (normOf input) plusZero) 13 [] (normBits (normOf input)) bits b .1 }
 
-module _ (p : FibQuantProfile) (schema algorithm : List ℕ) (log2 : Float) (matrix codewords input : List Float) (output work : ℕ) (frame : List ℕ) where
+module _ (c : EncodeCall) (frame : List ℕ) where
   pub record Encoded : Type 0 where
     pub bits : ℕ
-    pub passes : Codable p schema algorithm log2 matrix codewords input output work bits
-    pub norm : Normed input bits
-    pub frame-is : frame ≡ frameFor p matrix codewords input bits
+    pub passes : Fitting c
+    pub norm : Normed (c .input) bits
+    pub frame-is : frame ≡ frameFor (c .profile) (c .matrix) (c .codewords) (c .input) bits
 
-  pub encoded : encoding p schema algorithm log2 matrix codewords input output work ≡ completed frame → Encoded
-  encoded e = go (codable p schema algorithm log2 matrix codewords input output work) refl e
-    where
-      go : (o : Outcome ℕ) → codable p schema algorithm log2 matrix codewords input output work ≡ o → andThen o (λ bits. completed (frameFor p matrix codewords input bits)) ≡ completed frame → Encoded
-      go (completed bits) h k =
-          let c = codable-accepted p schema algorithm log2 matrix codewords input output work bits h in
-          record { bits = bits; passes = c; norm = norm-passed input bits (c .norm-passes); frame-is = completed-same frame _ (sym k) }
-      go (refused n v) h k = let z : _≡_ {A = ℕ} 0 1 = cc in absurd (omega arith)
+  pub encoded : encoding c ≡ completed frame → Encoded
+  unfolding codable
+  encoded e =
+      let (bits, h, k) = then-completed (codable c) (λ bits. completed (frameFor (c .profile) (c .matrix) (c .codewords) (c .input) bits)) frame e in
+      record {
+        bits = bits;
+        passes = fitting-accepted c (also-first (fitting c) _ h);
+        norm = norm-passed (c .input) bits (also-next (fitting c) _ h);
+        frame-is = sym (completed-same _ frame k);
+      }
 
-  module _ (c : Encoded) where
+  module _ (q : Encoded) where
     abbrev d : ℕ
-    d = p .«ambient_dim»
+    d = c .profile .«ambient_dim»
 
     abbrev k : ℕ
-    k = p .«block_dim»
+    k = c .profile .«block_dim»
 
     abbrev n : ℕ
-    n = p .«codebook_size»
+    n = c .profile .«codebook_size»
 
     abbrev w : ℕ
-    w = p .«wire_index_bits»
+    w = c .profile .«wire_index_bits»
 
     -- the indices that were chosen
     abbrev pub indices : List ℕ
-    indices = indicesFor (d / k) k n codewords (searched d matrix input (normOf input))
+    indices = indicesFor (d / k) k n (c .codewords) (searched d (c .matrix) (c .input) (normOf (c .input)))
 
     abbrev pub parts : Parts
-    parts = record { width = w; count = d / k; norm = bytesOf 2 (c .bits); indices = packedBytes indices w }
+    parts = record { width = w; count = d / k; norm = bytesOf 2 (q .bits); indices = packedBytes indices w }
 
     count-is : length indices ≡ d / k
-    count-is = length-indices (d / k) k n codewords (searched d matrix input (normOf input))
+    count-is = length-indices (d / k) k n (c .codewords) (searched d (c .matrix) (c .input) (normOf (c .input)))
 
     two-bytes : (b : ℕ) → length (bytesOf 2 b) ≡ 2
     unfolding bytesOf
@@ -112,22 +113,22 @@ module _ (p : FibQuantProfile) (schema algorithm : List ℕ) (log2 : Float) (mat
     pub parses : parsed frame ≡ completed parts
     parses =
         let few : d / k ≤ d = div-le-self d k in
-        let most = c .passes .valid .dim-most in
-        ap parsed (c .frame-is)
-        ∙ parse-written w (d / k) (bytesOf 2 (c .bits)) (packedBytes indices w) (lt-of-le-of-lt few (lt-of-le-of-lt most (lit< tt))) (rw (two-bytes (c .bits)) (omega arith))
+        let most = q .passes .valid .dim-most in
+        ap parsed (q .frame-is)
+        ∙ parse-written w (d / k) (bytesOf 2 (q .bits)) (packedBytes indices w) (lt-of-le-of-lt few (lt-of-le-of-lt most (lit< tt))) (rw (two-bytes (q .bits)) (omega arith))
         (length-packed indices w ∙ ap (λ (z : ℕ). bytesFor (z * w)) count-is)
 
-    pub headed : Headed p frame parts
+    pub headed : Headed (c .profile) frame parts
     headed = record { parses = parses; width-is = refl; count-is = refl }
 
     some : 1 ≤ n
-    some = let b = c .passes .valid .shape .book-least in omega arith
+    some = let b = q .passes .valid .shape .book-least in omega arith
 
     -- what is unpacked from the frame's bytes is what was chosen
     pub indices-are : indicesOf parts ≡ indices
     indices-are =
         ap (λ (z : ℕ). unpackedIndices (packedBytes indices w) z w) (sym count-is)
-        ∙ unpack-pack indices w (λ i l. index-fits (d / k) k n codewords (searched d matrix input (normOf input)) w some (indices-fit p (c .passes .valid)) i (subst (λ (z : ℕ). i < z) count-is l))
+        ∙ unpack-pack indices w (λ i l. index-fits (d / k) k n (c .codewords) (searched d (c .matrix) (c .input) (normOf (c .input))) w some (indices-fit (c .profile) (q .passes .valid)) i (subst (λ (z : ℕ). i < z) count-is l))
 
     all-below : below n (indicesOf parts) ≡ completed tt
     all-below =
@@ -135,7 +136,7 @@ module _ (p : FibQuantProfile) (schema algorithm : List ℕ) (log2 : Float) (mat
         let none : firstWhere t (length indices) ≡ Nowhere =
         nowhere t (length indices)
         (λ i l. let h : i < d / k = subst (λ (z : ℕ). i < z) count-is l in
-        ap not (lt-ltb (getD indices i 0) n (rw (getD-indices (d / k) k n codewords (searched d matrix input (normOf input)) i h) (index-below _ n some)))) in
+        ap not (lt-ltb (getD indices i 0) n (rw (getD-indices (d / k) k n (c .codewords) (searched d (c .matrix) (c .input) (normOf (c .input))) i h) (index-below _ n some)))) in
         ap (below n) indices-are ∙ ap (decode.offending n indices) none
 
     clean : paddingFrom (packedBytes indices w) (d / k * w) ≡ 0
@@ -144,32 +145,30 @@ module _ (p : FibQuantProfile) (schema algorithm : List ℕ) (log2 : Float) (mat
     checked-indices : indexed w (d / k) n parts ≡ completed tt
     checked-indices = clear w (d / k) n parts refl refl clean ∙ all-below
 
-    checked-lengths : decode.lengths d k n (length matrix) (length codewords) d (2 * d) ≡ completed tt
-    checked-lengths = rw (c .passes .matrix-length, c .passes .codewords-length, eq-eqb (d * d) (d * d) refl, eq-eqb (n * k) (n * k) refl, eq-eqb d d refl, eq-eqb (2 * d) (2 * d) refl)
+    checked-lengths : decode.lengths d k n (length (c .matrix)) (length (c .codewords)) d (2 * d) ≡ completed tt
+    checked-lengths = rw (q .passes .matrix-length, q .passes .codewords-length, eq-eqb (d * d) (d * d) refl, eq-eqb (n * k) (n * k) refl, eq-eqb d d refl, eq-eqb (2 * d) (2 * d) refl)
 
     -- the norm's two bytes stand for its pattern
-    norm-back : normValue (bytesOf 2 (c .bits)) ≡ completed (unpacked 11 15 (c .bits))
+    norm-back : normValue (bytesOf 2 (q .bits)) ≡ completed (unpacked 11 15 (q .bits))
     unfolding bytesOf
     norm-back =
-        let b = c .bits in
-        let r = norm-written (normOf input) b (c .norm .pattern) in
+        let b = q .bits in
+        let r = norm-written (normOf (c .input)) b (q .norm .pattern) in
         let small = r .below in
-        let q : b / 256 % 256 ≡ b / 256 = omega arith in
-        ap (λ (z : ℕ). normValue (b % 256 ∷ z ∷ [])) q ∙ read-back b (r .above) (r .below)
+        let high : b / 256 % 256 ≡ b / 256 = omega arith in
+        ap (λ (z : ℕ). normValue (b % 256 ∷ z ∷ [])) high ∙ read-back b (r .above) (r .below)
 
-    reads : readable p schema algorithm log2 matrix codewords d (2 * d) parts ≡ completed (unpacked 11 15 (c .bits))
-    reads = read-norm p schema algorithm log2 matrix codewords d (2 * d) parts (c .passes .validates) checked-lengths (c .passes .values-pass) checked-indices ∙ norm-back
+    reads : readable (decodingOf c frame) parts ≡ completed (unpacked 11 15 (q .bits))
+    reads = read-norm (decodingOf c frame) parts (q .passes .validates) checked-lengths (q .passes .values-pass) checked-indices ∙ norm-back
 
-    pub round-trip-of : RoundTrip p schema algorithm log2 matrix codewords input frame
+    pub round-trip-of : RoundTrip c frame
     round-trip-of = record {
       parts = parts;
       headed = headed;
-      bits = c .bits;
-      bits-are = c .norm .pattern;
+      bits = q .bits;
+      bits-are = q .norm .pattern;
       norm-is = refl;
       indices-are = indices-are;
-      readable-back = ap (λ (o : Outcome Parts). andThen o (readable p schema algorithm log2 matrix codewords d (2 * d))) parses ∙ reads;
-      values-back =
-          ap (λ (o : Outcome Parts). andThen o (λ q. andThen (readable p schema algorithm log2 matrix codewords d (2 * d) q) (valued p matrix codewords q))) parses
-          ∙ ap (λ (o : Outcome Float). andThen o (valued p matrix codewords parts)) reads;
+      readable-back = decodable-is (decodingOf c frame) parts (unpacked 11 15 (q .bits)) parses reads;
+      values-back = decoding-is (decodingOf c frame) parts (unpacked 11 15 (q .bits)) parses reads;
     }

@@ -24,7 +24,7 @@ ghost use Rattle.bitpack.specs.Layout.{indexAt, unpackedIndices};
 ghost use Rattle.compact.specs.Frame.{parsed, partsOf};
 ghost use Rattle.norm.specs.Norm.{valueOf};
 ghost use Rattle.decode.specs.Work.{Binary32, Reconstructible};
-ghost use Rattle.decode.specs.Decode.{rotatedAt, decoded, lengths, values, below, indexed, onlyFinite, readable, decodable, decoding};
+ghost use Rattle.decode.specs.Decode.{rotatedAt, decoded, lengths, values, below, indexed, onlyFinite, decodeCall, readable, decodable, decoding};
 
 // The most that a value of the matrix may be in size: 2^20.
 const MATRIX_LIMIT: f64 = 1_048_576.0;
@@ -81,7 +81,8 @@ pub fn check_values(matrix: &[f64], codewords: &[f32]) -> Checked
     Checked::Accepted
 }
 
-// The first of the packed indices that is not below n is refused. Nothing is kept of the others: there is no room for them.
+// The first of the packed indices that is not below n is refused. Nothing is kept of the others: there is no room for
+// them.
 fn check_below(indices: &[u8], width: u8, count: usize, n: u32) -> Checked
     requires { ⌜ (width ≤ 32) × (count * width ≤ 8 * length (now indices)) ⌝ }
     ensures { λ r. ⌜ checked r ≡ below n (unpackedIndices (now (indices .entry)) count width) ⌝ }
@@ -135,7 +136,9 @@ fn read_code(
     work: usize,
 ) -> NormValue
     requires { ⌜ parsed (now bytes) ≡ completed (partsOf (now bytes) frame) ⌝ }
-    ensures { λ r. ⌜ valueOf r ≡ readable profile (now (schema .entry)) (now («rotation_algorithm» .entry)) log2 (now (matrix .entry)) (now (codewords .entry)) output work (partsOf (now (bytes .entry)) frame) ⌝ }
+    ensures { λ r. ⌜ (let c = decodeCall profile (now (schema .entry)) (now («rotation_algorithm» .entry)) log2
+        (now (matrix .entry)) (now (codewords .entry)) (now (bytes .entry)) output work in
+        valueOf r ≡ readable c (partsOf (now (bytes .entry)) frame)) ⌝ }
 {
     let valid = profile.validate(schema, rotation_algorithm, log2);
     if let Checked::Refused(refusal) = valid {
@@ -170,8 +173,10 @@ fn read_code(
 
 // The codewords of the packed indices, widened, one after another from the start of the work.
 fn gather(codewords: &[f32], k: usize, indices: &[u8], width: u8, count: usize, work: &mut [f64])
-    requires { ⌜ (width ≤ 32) × (count * width ≤ 8 * length (now indices)) × (count * k ≤ length (now work)) × ((i : ℕ) → i < count → indexAt (now indices) width i * k + k ≤ length (now codewords)) ⌝ }
-    ensures { λ r. ⌜ now (work .exit) ≡ patched (now (work .entry)) 0 (count * k) (rotatedAt k (now (codewords .entry)) (unpackedIndices (now (indices .entry)) count width)) ⌝ }
+    requires { ⌜ (width ≤ 32) × (count * width ≤ 8 * length (now indices)) × (count * k ≤ length (now work))
+        × ((i : ℕ) → i < count → indexAt (now indices) width i * k + k ≤ length (now codewords)) ⌝ }
+    ensures { λ r. ⌜ now (work .exit) ≡ patched (now (work .entry)) 0 (count * k)
+        (rotatedAt k (now (codewords .entry)) (unpackedIndices (now (indices .entry)) count width)) ⌝ }
 {
     let mut reader = BitReader::new();
     let mut i = 0usize;
@@ -213,8 +218,10 @@ fn or_at(found: First, place: usize, fails: bool) -> First
 // Each value of the second half of the work times the norm, rounded to binary32; answers the first that is not finite.
 fn scale(norm: f64, work: &mut [f64], d: usize) -> First
     requires { ⌜ length (now work) ≡ d + d ⌝ }
-    ensures { λ r. ⌜ r ≡ firstWhere (λ i. not (finite (narrowTo binary32 (mul binary64 (getD (now (work .entry)) (d + i) nan) norm)))) d ⌝ }
-    ensures { λ r. ⌜ now (work .exit) ≡ patched (now (work .entry)) d d (λ i. narrowTo binary32 (mul binary64 (getD (now (work .entry)) (d + i) nan) norm)) ⌝ }
+    ensures { λ r. ⌜ r ≡ firstWhere
+        (λ i. not (finite (narrowTo binary32 (mul binary64 (getD (now (work .entry)) (d + i) nan) norm)))) d ⌝ }
+    ensures { λ r. ⌜ now (work .exit) ≡ patched (now (work .entry)) d d
+        (λ i. narrowTo binary32 (mul binary64 (getD (now (work .entry)) (d + i) nan) norm)) ⌝ }
 {
     let mut bad = First::Nowhere;
     let mut i = 0usize;
@@ -231,7 +238,8 @@ fn scale(norm: f64, work: &mut [f64], d: usize) -> First
 fn copy_out(work: &[f64], output: &mut [f32])
     requires { ⌜ length (now work) ≡ length (now output) + length (now output) ⌝ }
     requires { ⌜ ((i : ℕ) → i < length (now output) → Binary32 (getD (now work) (length (now output) + i) nan)) ⌝ }
-    ensures { λ r. ⌜ now (output .exit) ≡ tabulate (length (now (output .entry))) (λ i. getD (now (work .entry)) (length (now (output .entry)) + i) nan) ⌝ }
+    ensures { λ r. ⌜ now (output .exit) ≡ tabulate (length (now (output .entry)))
+        (λ i. getD (now (work .entry)) (length (now (output .entry)) + i) nan) ⌝ }
 {
     let d = output.len();
     let mut i = 0usize;
@@ -241,7 +249,8 @@ fn copy_out(work: &[f64], output: &mut [f32])
     }
 }
 
-// The values that packed indices and a norm stand for, into the output, unless one of them is not finite. The work is zeroed.
+// The values that packed indices and a norm stand for, into the output, unless one of them is not finite.
+// The work is zeroed.
 fn reconstruct(
     matrix: &[f64],
     codewords: &[f32],
@@ -253,10 +262,13 @@ fn reconstruct(
     output: &mut [f32],
     work: &mut [f64],
 ) -> Checked
-    requires { ⌜ Reconstructible (length (now output)) k (length (now matrix)) (length (now codewords)) (now indices) width count (length (now work)) ⌝ }
-    ensures { λ r. ⌜ checked r ≡ accepted (onlyFinite (decoded (length (now (output .entry))) k (now (matrix .entry)) (now (codewords .entry)) (unpackedIndices (now (indices .entry)) count width) norm)) ⌝ }
-    ensures { λ r. ⌜ now (output .exit) ≡ contents (onlyFinite (decoded (length (now (output .entry))) k (now (matrix .entry)) (now (codewords .entry)) (unpackedIndices (now (indices .entry)) count width) norm)) (now (output .entry)) ⌝ }
-    ensures { λ r. ⌜ now (work .exit) ≡ replicate (length (now (work .entry))) plusZero ⌝ }
+    requires { ⌜ Reconstructible (length (now output)) k (length (now matrix)) (length (now codewords))
+        (now indices) width count (length (now work)) ⌝ }
+    ensures { λ r. ⌜ (let answer = onlyFinite (decoded (length (now (output .entry))) k
+        (now (matrix .entry)) (now (codewords .entry)) (unpackedIndices (now (indices .entry)) count width) norm) in
+        (checked r ≡ accepted answer)
+        × (now (output .exit) ≡ contents answer (now (output .entry)))
+        × (now (work .exit) ≡ replicate (length (now (work .entry))) plusZero)) ⌝ }
 {
     let d = output.len();
     gather(codewords, k, indices, width, count, work);
@@ -271,7 +283,8 @@ fn reconstruct(
     Checked::Accepted
 }
 
-// The vector that a frame stands for. A refusal leaves both buffers as they were, but a value that is not finite (12) has the work zeroed.
+// The vector that a frame stands for. A refusal leaves both buffers as they were, but a value that is not finite (12)
+// has the work zeroed.
 pub fn decode(
     profile: FibQuantProfile,
     schema: &[u8],
@@ -283,9 +296,12 @@ pub fn decode(
     output: &mut [f32],
     work: &mut [f64],
 ) -> Checked
-    ensures { λ r. ⌜ checked r ≡ accepted (decoding profile (now (schema .entry)) (now («rotation_algorithm» .entry)) log2 (now (matrix .entry)) (now (codewords .entry)) (length (now (output .entry))) (length (now (work .entry))) (now (bytes .entry))) ⌝ }
-    ensures { λ r. ⌜ now (output .exit) ≡ contents (decoding profile (now (schema .entry)) (now («rotation_algorithm» .entry)) log2 (now (matrix .entry)) (now (codewords .entry)) (length (now (output .entry))) (length (now (work .entry))) (now (bytes .entry))) (now (output .entry)) ⌝ }
-    ensures { λ r. ⌜ now (work .exit) ≡ ifCompleted (decodable profile (now (schema .entry)) (now («rotation_algorithm» .entry)) log2 (now (matrix .entry)) (now (codewords .entry)) (length (now (output .entry))) (length (now (work .entry))) (now (bytes .entry))) (replicate (length (now (work .entry))) plusZero) (now (work .entry)) ⌝ }
+    ensures { λ r. ⌜ (let c = decodeCall profile (now (schema .entry)) (now («rotation_algorithm» .entry)) log2
+        (now (matrix .entry)) (now (codewords .entry)) (now (bytes .entry))
+        (length (now (output .entry))) (length (now (work .entry))) in
+        (checked r ≡ accepted (decoding c))
+        × (now (output .exit) ≡ contents (decoding c) (now (output .entry)))
+        × (now (work .exit) ≡ ifCompleted (decodable c) (replicate (length (now (work .entry))) plusZero) (now (work .entry)))) ⌝ }
 {
     let parsed = compact::parse_compact(bytes);
     match parsed {

@@ -24,6 +24,32 @@ use Rattle.codebook.specs.Codebook.{firstNotFinite}
 use Rattle.norm.specs.Norm.{normBits}
 use Rattle.decode.specs.Decode.{values}
 
+-- ---- what an encoding is given, but the contents of the buffers that it writes; of these the lengths
+pub record EncodeCall : Type 0 where
+  pub profile : FibQuantProfile
+  pub schema : List ℕ
+  pub algorithm : List ℕ
+  pub log2 : Float
+  pub matrix : List Float
+  pub codewords : List Float
+  pub input : List Float
+  pub output : ℕ
+  pub work : ℕ
+
+abbrev pub encodeCall : FibQuantProfile → List ℕ → List ℕ → Float → List Float → List Float → List Float → ℕ → ℕ
+    → EncodeCall
+encodeCall profile schema algorithm log2 matrix codewords input output work = record {
+  profile = profile;
+  schema = schema;
+  algorithm = algorithm;
+  log2 = log2;
+  matrix = matrix;
+  codewords = codewords;
+  input = input;
+  output = output;
+  work = work;
+}
+
 -- ---- what is written
 
 -- the norm: the root of the sum of the squares
@@ -39,7 +65,8 @@ normalizedAt input norm i = div binary64 (getD input i nan) norm
 
 -- what the search sees: the normalized input, rotated, rounded to binary32
 unfoldable pub searchedAt : ℕ → List Float → List Float → Float → ℕ → Float
-searchedAt d matrix input norm i = narrowTo binary32 (getD (applied d matrix (tabulate d (normalizedAt input norm))) i nan)
+searchedAt d matrix input norm i =
+    narrowTo binary32 (getD (applied d matrix (tabulate d (normalizedAt input norm))) i nan)
 
 abbrev pub searched : ℕ → List Float → List Float → Float → List Float
 searched d matrix input norm = tabulate d (searchedAt d matrix input norm)
@@ -55,8 +82,10 @@ indicesFor count k n codewords xs = tabulate count (indexFor k n codewords xs)
 -- the frame of the norm's pattern and of the indices
 abbrev pub frameFor : FibQuantProfile → List Float → List Float → List Float → ℕ → List ℕ
 frameFor p matrix codewords input bits =
-    frameOf (p .«wire_index_bits») (p .«ambient_dim» / p .«block_dim») (bytesOf 2 bits)
-    (packedBytes (indicesFor (p .«ambient_dim» / p .«block_dim») (p .«block_dim») (p .«codebook_size») codewords (searched (p .«ambient_dim») matrix input (normOf input))) (p .«wire_index_bits»))
+    let d = p .«ambient_dim» in
+    let k = p .«block_dim» in
+    let indices = indicesFor (d / k) k (p .«codebook_size») codewords (searched d matrix input (normOf input)) in
+    frameOf (p .«wire_index_bits») (d / k) (bytesOf 2 bits) (packedBytes indices (p .«wire_index_bits»))
 
 -- ---- the checks
 
@@ -67,7 +96,12 @@ frameLength d k bits = 13 + bytesFor (d / k * bits)
 -- 7: the lengths of matrix, codewords, input, output and float work
 abbrev pub lengths : ℕ → ℕ → ℕ → ℕ → ℕ → ℕ → ℕ → ℕ → ℕ → Outcome Unit
 lengths d k n bits matrix codewords input output work =
-    ofLength matrixSlice (d * d) matrix (ofLength codewordsSlice (n * k) codewords (ofLength inputSlice d input (ofLength outputSlice (frameLength d k bits) output (ofLength floatWorkSlice (2 * d) work (completed tt)))))
+    ofLength matrixSlice (d * d) matrix
+    (ofLength codewordsSlice (n * k) codewords
+    (ofLength inputSlice d input
+    (ofLength outputSlice (frameLength d k bits) output
+    (ofLength floatWorkSlice (2 * d) work
+    (completed tt)))))
 
 -- 12: the first value of the input that is not finite
 abbrev pub finiteInput : First → Outcome Unit
@@ -76,17 +110,24 @@ finiteInput (At place) = refused 12 (whole place ∷ [])
 
 -- 12, 13 (the norm is zero) and 10: the pattern of the norm
 unfoldable pub normed : List Float → Float → Outcome ℕ
-normed input norm = also (finiteInput (firstNotFinite input)) (cond (eq norm plusZero) (refused 13 []) (normBits norm))
+normed input norm =
+    also (finiteInput (firstNotFinite input))
+    (cond (eq norm plusZero) (refused 13 [])
+    (normBits norm))
+
+-- the checks that do not read the input: of the profile, the lengths, and the values of codewords and matrix
+unfoldable pub fitting : EncodeCall → Outcome Unit
+fitting c =
+    let p = c .profile in
+    also (validity p (c .schema) (c .algorithm) (c .log2))
+    (also (lengths (p .«ambient_dim») (p .«block_dim») (p .«codebook_size») (p .«wire_index_bits»)
+    (length (c .matrix)) (length (c .codewords)) (length (c .input)) (c .output) (c .work))
+    (values (c .matrix) (c .codewords)))
 
 -- every check: the pattern of the norm
-unfoldable pub codable : FibQuantProfile → List ℕ → List ℕ → Float → List Float → List Float → List Float → ℕ → ℕ → Outcome ℕ
-codable p schema algorithm log2 matrix codewords input output work =
-    also (validity p schema algorithm log2)
-    (also (lengths (p .«ambient_dim») (p .«block_dim») (p .«codebook_size») (p .«wire_index_bits») (length matrix) (length codewords) (length input) output work)
-    (also (values matrix codewords)
-    (normed input (normOf input))))
+unfoldable pub codable : EncodeCall → Outcome ℕ
+codable c = also (fitting c) (normed (c .input) (normOf (c .input)))
 
 -- the whole: every check, and the frame
-abbrev pub encoding : FibQuantProfile → List ℕ → List ℕ → Float → List Float → List Float → List Float → ℕ → ℕ → Outcome (List ℕ)
-encoding p schema algorithm log2 matrix codewords input output work =
-    andThen (codable p schema algorithm log2 matrix codewords input output work) (λ bits. completed (frameFor p matrix codewords input bits))
+abbrev pub encoding : EncodeCall → Outcome (List ℕ)
+encoding c = andThen (codable c) (λ bits. completed (frameFor (c .profile) (c .matrix) (c .codewords) (c .input) bits))

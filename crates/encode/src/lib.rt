@@ -1,4 +1,5 @@
-// Encodes a vector into a compact frame: its norm, every check, and the frame. From codec.rs of fib-quant, without digests.
+// Encodes a vector into a compact frame: the checks, its norm, and the frame. From codec.rs of fib-quant, without
+// digests.
 // specs/Encode.antt has the order of the checks, their numbers and values, and the frame that is written.
 // The entry point is `encode`, at the end.
 use bitpack::BitWriter;
@@ -22,7 +23,7 @@ ghost use Rattle.bitpack.specs.Cursor.{WriterAt};
 ghost use Rattle.compact.specs.Frame.{bytesOf, header, frameOf};
 ghost use Rattle.lloyd_search_f32.specs.Finite.{FiniteValues};
 ghost use Rattle.norm.specs.Norm.{bitsOf};
-ghost use Rattle.encode.specs.Encode.{normOf, normalizedAt, searched, indicesFor, lengths, normed, codable, encoding};
+ghost use Rattle.encode.specs.Encode.{encodeCall, normOf, normalizedAt, indicesFor, frameFor, lengths, normed, fitting, encoding};
 ghost use Rattle.encode.specs.Work.{Searchable, Writable};
 
 // The lengths of matrix, codewords, input, output and float work.
@@ -86,8 +87,8 @@ fn check_norm(input: &[f32], norm: f64) -> NormBits
     norm::encode_norm(norm)
 }
 
-// Every check, and the norm's pattern. Nothing is written before all of them are passed.
-fn check_input(
+// The checks that do not read the input: of the profile, the lengths, and the values of codewords and matrix.
+fn check_call(
     profile: FibQuantProfile,
     schema: &[u8],
     rotation_algorithm: &[u8],
@@ -95,16 +96,16 @@ fn check_input(
     matrix: &[f64],
     codewords: &[f32],
     input: &[f32],
-    norm: f64,
     output: usize,
     work: usize,
-) -> NormBits
-    requires { ⌜ norm ≡ normOf (now input) ⌝ }
-    ensures { λ r. ⌜ bitsOf r ≡ codable profile (now (schema .entry)) (now («rotation_algorithm» .entry)) log2 (now (matrix .entry)) (now (codewords .entry)) (now (input .entry)) output work ⌝ }
+) -> Checked
+    ensures { λ r. ⌜ (let c = encodeCall profile (now (schema .entry)) (now («rotation_algorithm» .entry)) log2
+        (now (matrix .entry)) (now (codewords .entry)) (now (input .entry)) output work in
+        checked r ≡ fitting c) ⌝ }
 {
     let valid = profile.validate(schema, rotation_algorithm, log2);
     if let Checked::Refused(refusal) = valid {
-        return NormBits::Refused(refusal);
+        return Checked::Refused(refusal);
     }
     let d = profile.ambient_dim;
     let k = profile.block_dim;
@@ -122,19 +123,16 @@ fn check_input(
         work,
     );
     if let Checked::Refused(refusal) = sized {
-        return NormBits::Refused(refusal);
+        return Checked::Refused(refusal);
     }
-    let bounded = decode::check_values(matrix, codewords);
-    if let Checked::Refused(refusal) = bounded {
-        return NormBits::Refused(refusal);
-    }
-    check_norm(input, norm)
+    decode::check_values(matrix, codewords)
 }
 
 // The input over its norm, widened, from the start of the work.
 fn normalize(input: &[f32], norm: f64, work: &mut [f64])
     requires { ⌜ length (now work) ≡ length (now input) + length (now input) ⌝ }
-    ensures { λ r. ⌜ now (work .exit) ≡ patched (now (work .entry)) 0 (length (now (input .entry))) (normalizedAt (now (input .entry)) norm) ⌝ }
+    ensures { λ r. ⌜ now (work .exit)
+        ≡ patched (now (work .entry)) 0 (length (now (input .entry))) (normalizedAt (now (input .entry)) norm) ⌝ }
 {
     let mut i = 0usize;
     while i < input.len() {
@@ -146,7 +144,8 @@ fn normalize(input: &[f32], norm: f64, work: &mut [f64])
 // Each value of the second half of the work, rounded to binary32.
 fn round_half(work: &mut [f64], d: usize)
     requires { ⌜ length (now work) ≡ d + d ⌝ }
-    ensures { λ r. ⌜ now (work .exit) ≡ patched (now (work .entry)) d d (λ i. narrowTo binary32 (getD (now (work .entry)) (d + i) nan)) ⌝ }
+    ensures { λ r. ⌜ now (work .exit)
+        ≡ patched (now (work .entry)) d d (λ i. narrowTo binary32 (getD (now (work .entry)) (d + i) nan)) ⌝ }
 {
     let mut i = 0usize;
     while i < d {
@@ -156,7 +155,8 @@ fn round_half(work: &mut [f64], d: usize)
     }
 }
 
-// The packed indices of the whole fours of blocks, four searched at once so that a codeword is widened once for them. Answers the writer after them.
+// The packed indices of the whole fours of blocks, four searched at once so that a codeword is widened once for them.
+// Answers the writer after them.
 fn write_fours(
     codewords: &[f32],
     n: usize,
@@ -166,8 +166,10 @@ fn write_fours(
     values: &[f64],
     output: &mut [u8],
 ) -> BitWriter
-    requires { ⌜ (Searchable count k n width (length (now values)) (length (now codewords)) (length (now output))) × FiniteValues (now codewords) ⌝ }
-    ensures { λ r. ⌜ WriterAt (packedBit (indicesFor count k n (now (codewords .entry)) (now (values .entry))) width) (count / 4 * 4 * width) (now (output .entry)) (now (output .exit)) r ⌝ }
+    requires { ⌜ (Searchable count k n width (length (now values)) (length (now codewords)) (length (now output)))
+        × FiniteValues (now codewords) ⌝ }
+    ensures { λ r. ⌜ WriterAt (packedBit (indicesFor count k n (now (codewords .entry)) (now (values .entry))) width)
+        (count / 4 * 4 * width) (now (output .entry)) (now (output .exit)) r ⌝ }
 {
     let fours = count / 4;
     let mut writer = BitWriter::new();
@@ -196,8 +198,10 @@ fn write_indices(
     values: &[f64],
     output: &mut [u8],
 )
-    requires { ⌜ (Searchable count k n width (length (now values)) (length (now codewords)) (length (now output))) × FiniteValues (now codewords) ⌝ }
-    ensures { λ r. ⌜ now (output .exit) ≡ packedBytes (indicesFor count k n (now (codewords .entry)) (now (values .entry))) width ⌝ }
+    requires { ⌜ (Searchable count k n width (length (now values)) (length (now codewords)) (length (now output)))
+        × FiniteValues (now codewords) ⌝ }
+    ensures { λ r. ⌜ now (output .exit)
+        ≡ packedBytes (indicesFor count k n (now (codewords .entry)) (now (values .entry))) width ⌝ }
 {
     let mut writer = write_fours(codewords, n, k, count, width, values, output);
     let mut i = count / 4 * 4;
@@ -234,8 +238,10 @@ fn write_frame(
     values: &[f64],
     output: &mut [u8],
 )
-    requires { ⌜ (Searchable count k n width (length (now values)) (length (now codewords)) (length (drop 13 (now output)))) × (13 ≤ length (now output)) × FiniteValues (now codewords) ⌝ }
-    ensures { λ r. ⌜ now (output .exit) ≡ frameOf width count (bytesOf 2 bits) (packedBytes (indicesFor count k n (now (codewords .entry)) (now (values .entry))) width) ⌝ }
+    requires { ⌜ (Searchable count k n width (length (now values)) (length (now codewords))
+        (length (drop 13 (now output)))) × (13 ≤ length (now output)) × FiniteValues (now codewords) ⌝ }
+    ensures { λ r. ⌜ now (output .exit) ≡ frameOf width count (bytesOf 2 bits)
+        (packedBytes (indicesFor count k n (now (codewords .entry)) (now (values .entry))) width) ⌝ }
 {
     write_front(width, count, bits, output);
     write_indices(
@@ -251,31 +257,44 @@ fn write_frame(
 
 // The frame of an input whose norm and its pattern are known. The work is zeroed.
 fn write_code(
+    profile: FibQuantProfile,
     matrix: &[f64],
     codewords: &[f32],
-    n: usize,
-    k: usize,
-    count: u32,
-    width: u8,
     input: &[f32],
     norm: f64,
     bits: u16,
     output: &mut [u8],
     work: &mut [f64],
 )
-    requires { ⌜ (Writable (length (now input)) k n count width (length (now matrix)) (length (now codewords)) (length (now output)) (length (now work))) × FiniteValues (now codewords) ⌝ }
-    ensures { λ r. ⌜ now (output .exit) ≡ frameOf width count (bytesOf 2 bits) (packedBytes (indicesFor count k n (now (codewords .entry)) (searched (length (now (input .entry))) (now (matrix .entry)) (now (input .entry)) norm)) width) ⌝ }
+    requires { ⌜ (Writable profile (length (now matrix)) (length (now codewords)) (length (now input))
+        (length (now output)) (length (now work))) × FiniteValues (now codewords) × (norm ≡ normOf (now input)) ⌝ }
+    ensures { λ r. ⌜ now (output .exit)
+        ≡ frameFor profile (now (matrix .entry)) (now (codewords .entry)) (now (input .entry)) bits ⌝ }
     ensures { λ r. ⌜ now (work .exit) ≡ replicate (length (now (work .entry))) plusZero ⌝ }
 {
     let d = input.len();
+    let k = profile.block_dim;
+    let n = profile.codebook_size;
+    let width = profile.wire_index_bits;
+    let count = profile.ambient_dim / k;
     normalize(input, norm, work);
     rotation::rotate_within(matrix, work, d);
     round_half(work, d);
-    write_frame(codewords, n, k, count, width, bits, &work[d..], output);
+    write_frame(
+        codewords,
+        n as usize,
+        k as usize,
+        count,
+        width,
+        bits,
+        &work[d..],
+        output,
+    );
     slices::zero_f64(work);
 }
 
-// The frame of a vector: its norm, and for each block the index of the nearest codeword. A refusal leaves both buffers as they were.
+// The frame of a vector: its norm, and for each block the index of the nearest codeword. A refusal leaves both buffers
+// as they were. An input of the wrong length is refused before any of it is read.
 pub fn encode(
     profile: FibQuantProfile,
     schema: &[u8],
@@ -287,12 +306,14 @@ pub fn encode(
     output: &mut [u8],
     work: &mut [f64],
 ) -> Checked
-    ensures { λ r. ⌜ checked r ≡ accepted (encoding profile (now (schema .entry)) (now («rotation_algorithm» .entry)) log2 (now (matrix .entry)) (now (codewords .entry)) (now (input .entry)) (length (now (output .entry))) (length (now (work .entry)))) ⌝ }
-    ensures { λ r. ⌜ now (output .exit) ≡ contents (encoding profile (now (schema .entry)) (now («rotation_algorithm» .entry)) log2 (now (matrix .entry)) (now (codewords .entry)) (now (input .entry)) (length (now (output .entry))) (length (now (work .entry)))) (now (output .entry)) ⌝ }
-    ensures { λ r. ⌜ now (work .exit) ≡ ifCompleted (encoding profile (now (schema .entry)) (now («rotation_algorithm» .entry)) log2 (now (matrix .entry)) (now (codewords .entry)) (now (input .entry)) (length (now (output .entry))) (length (now (work .entry)))) (replicate (length (now (work .entry))) plusZero) (now (work .entry)) ⌝ }
+    ensures { λ r. ⌜ (let c = encodeCall profile (now (schema .entry)) (now («rotation_algorithm» .entry)) log2
+        (now (matrix .entry)) (now (codewords .entry)) (now (input .entry))
+        (length (now (output .entry))) (length (now (work .entry))) in
+        (checked r ≡ accepted (encoding c))
+        × (now (output .exit) ≡ contents (encoding c) (now (output .entry)))
+        × (now (work .exit) ≡ ifCompleted (encoding c) (replicate (length (now (work .entry))) plusZero) (now (work .entry)))) ⌝ }
 {
-    let norm = l2_norm(input);
-    let checks = check_input(
+    let checks = check_call(
         profile,
         schema,
         rotation_algorithm,
@@ -300,31 +321,18 @@ pub fn encode(
         matrix,
         codewords,
         input,
-        norm,
         output.len(),
         work.len(),
     );
-    match checks {
+    if let Checked::Refused(refusal) = checks {
+        return Checked::Refused(refusal);
+    }
+    let norm = l2_norm(input);
+    let pattern = check_norm(input, norm);
+    match pattern {
         NormBits::Refused(refusal) => Checked::Refused(refusal),
         NormBits::Bits(bits) => {
-            let d = profile.ambient_dim;
-            let k = profile.block_dim;
-            let n = profile.codebook_size;
-            let width = profile.wire_index_bits;
-            let count = d / k;
-            write_code(
-                matrix,
-                codewords,
-                n as usize,
-                k as usize,
-                count,
-                width,
-                input,
-                norm,
-                bits,
-                output,
-                work,
-            );
+            write_code(profile, matrix, codewords, input, norm, bits, output, work);
             Checked::Accepted
         }
     }

@@ -24,8 +24,11 @@ pub extern "C" fn fib_codeword(
     whole: &mut [u64; 4],
     real: &mut [f64; 2],
 ) -> u32
-    ensures { λ r. ⌜ found r (now (whole .exit)) (now (real .exit)) ≡ crossed none (codewordAlone «codebook_size» «block_dim» (now (codewords .entry)) index (length (now (output .entry)))) ⌝ }
-    ensures { λ r. ⌜ now (output .exit) ≡ ifCompleted (codewordAlone «codebook_size» «block_dim» (now (codewords .entry)) index (length (now (output .entry)))) (tabulate «block_dim» (rowOf «block_dim» (now (codewords .entry)) index)) (now (output .entry)) ⌝ }
+    ensures { λ r. ⌜ (let answer = codewordAlone «codebook_size» «block_dim» (now (codewords .entry)) index
+        (length (now (output .entry))) in
+        (found r (now (whole .exit)) (now (real .exit)) ≡ crossed none answer)
+        × (now (output .exit) ≡ ifCompleted answer
+        (tabulate «block_dim» (rowOf «block_dim» (now (codewords .entry)) index)) (now (output .entry)))) ⌝ }
 {
     let answer = codebook::codeword(codewords, codebook_size, block_dim, index, output);
     put_checked(answer, whole, real)
@@ -40,7 +43,8 @@ pub extern "C" fn fib_check_codewords(
     whole: &mut [u64; 4],
     real: &mut [f64; 2],
 ) -> u32
-    ensures { λ r. ⌜ found r (now (whole .exit)) (now (real .exit)) ≡ crossed none (codewordsAlone «codebook_size» «block_dim» (now (codewords .entry))) ⌝ }
+    ensures { λ r. ⌜ found r (now (whole .exit)) (now (real .exit))
+        ≡ crossed none (codewordsAlone «codebook_size» «block_dim» (now (codewords .entry))) ⌝ }
 {
     let answer = codebook::check_codewords(codewords, codebook_size, block_dim);
     put_checked(answer, whole, real)
@@ -61,7 +65,8 @@ pub extern "C" fn fib_encode_norm(norm: f64, whole: &mut [u64; 4], real: &mut [f
 // The norm in real[0].
 #[no_mangle]
 pub extern "C" fn fib_decode_norm(payload: &[u8], whole: &mut [u64; 4], real: &mut [f64; 2]) -> u32
-    ensures { λ r. ⌜ found r (now (whole .exit)) (now (real .exit)) ≡ crossed oneReal (normValue (now (payload .entry))) ⌝ }
+    ensures { λ r. ⌜ found r (now (whole .exit)) (now (real .exit))
+        ≡ crossed oneReal (normValue (now (payload .entry))) ⌝ }
 {
     let answer = norm::decode_norm(payload);
     match answer {

@@ -4,8 +4,8 @@ ghost use mathlib.Core.Path.{_≡_};
 ghost use lib.ListN.{length, replicate};
 ghost use Rattle.error.specs.Numbers.{ifCompleted, accepted, contents};
 ghost use Rattle.ieee.specs.Sum.{plusZero};
-ghost use Rattle.decode.specs.Decode.{decodable, decoding};
-ghost use Rattle.encode.specs.Encode.{encoding};
+ghost use Rattle.decode.specs.Decode.{decodeCall, decodable, decoding};
+ghost use Rattle.encode.specs.Encode.{encodeCall, encoding};
 ghost use Rattle.ffi_profile.specs.Profiles.{profileFrom};
 ghost use Rattle.ffi_crossing.specs.Crossing.{found, crossed, none};
 
@@ -39,9 +39,16 @@ pub extern "C" fn fib_encode(
     whole: &mut [u64; 4],
     real: &mut [f64; 2],
 ) -> u32
-    ensures { λ r. ⌜ found r (now (whole .exit)) (now (real .exit)) ≡ crossed none (accepted (encoding (profileFrom «ambient_dim» «block_dim» «codebook_size» «paper_rate» «wire_index_bits» «wire_rate» «norm_format» «rotation_seed» «codebook_seed» «source_mode» «radius_method» «direction_method» restarts iterations «training_samples» «empty_cell_policy») (now (schema .entry)) (now («rotation_algorithm» .entry)) log2 (now (matrix .entry)) (now (codewords .entry)) (now (input .entry)) (length (now (output .entry))) (length (now (work .entry))))) ⌝ }
-    ensures { λ r. ⌜ now (output .exit) ≡ contents (encoding (profileFrom «ambient_dim» «block_dim» «codebook_size» «paper_rate» «wire_index_bits» «wire_rate» «norm_format» «rotation_seed» «codebook_seed» «source_mode» «radius_method» «direction_method» restarts iterations «training_samples» «empty_cell_policy») (now (schema .entry)) (now («rotation_algorithm» .entry)) log2 (now (matrix .entry)) (now (codewords .entry)) (now (input .entry)) (length (now (output .entry))) (length (now (work .entry)))) (now (output .entry)) ⌝ }
-    ensures { λ r. ⌜ now (work .exit) ≡ ifCompleted (encoding (profileFrom «ambient_dim» «block_dim» «codebook_size» «paper_rate» «wire_index_bits» «wire_rate» «norm_format» «rotation_seed» «codebook_seed» «source_mode» «radius_method» «direction_method» restarts iterations «training_samples» «empty_cell_policy») (now (schema .entry)) (now («rotation_algorithm» .entry)) log2 (now (matrix .entry)) (now (codewords .entry)) (now (input .entry)) (length (now (output .entry))) (length (now (work .entry)))) (replicate (length (now (work .entry))) plusZero) (now (work .entry)) ⌝ }
+    ensures { λ r. ⌜ (let c = encodeCall
+        (profileFrom «ambient_dim» «block_dim» «codebook_size» «paper_rate» «wire_index_bits»
+        «wire_rate» «norm_format» «rotation_seed» «codebook_seed» «source_mode» «radius_method» «direction_method»
+        restarts iterations «training_samples» «empty_cell_policy»)
+        (now (schema .entry)) (now («rotation_algorithm» .entry)) log2
+        (now (matrix .entry)) (now (codewords .entry)) (now (input .entry))
+        (length (now (output .entry))) (length (now (work .entry))) in
+        (found r (now (whole .exit)) (now (real .exit)) ≡ crossed none (accepted (encoding c)))
+        × (now (output .exit) ≡ contents (encoding c) (now (output .entry)))
+        × (now (work .exit) ≡ ifCompleted (encoding c) (replicate (length (now (work .entry))) plusZero) (now (work .entry)))) ⌝ }
 {
     let profile = ffi_profile::profile_from(
         ambient_dim,
@@ -105,9 +112,16 @@ pub extern "C" fn fib_decode(
     whole: &mut [u64; 4],
     real: &mut [f64; 2],
 ) -> u32
-    ensures { λ r. ⌜ found r (now (whole .exit)) (now (real .exit)) ≡ crossed none (accepted (decoding (profileFrom «ambient_dim» «block_dim» «codebook_size» «paper_rate» «wire_index_bits» «wire_rate» «norm_format» «rotation_seed» «codebook_seed» «source_mode» «radius_method» «direction_method» restarts iterations «training_samples» «empty_cell_policy») (now (schema .entry)) (now («rotation_algorithm» .entry)) log2 (now (matrix .entry)) (now (codewords .entry)) (length (now (output .entry))) (length (now (work .entry))) (now (bytes .entry)))) ⌝ }
-    ensures { λ r. ⌜ now (output .exit) ≡ contents (decoding (profileFrom «ambient_dim» «block_dim» «codebook_size» «paper_rate» «wire_index_bits» «wire_rate» «norm_format» «rotation_seed» «codebook_seed» «source_mode» «radius_method» «direction_method» restarts iterations «training_samples» «empty_cell_policy») (now (schema .entry)) (now («rotation_algorithm» .entry)) log2 (now (matrix .entry)) (now (codewords .entry)) (length (now (output .entry))) (length (now (work .entry))) (now (bytes .entry))) (now (output .entry)) ⌝ }
-    ensures { λ r. ⌜ now (work .exit) ≡ ifCompleted (decodable (profileFrom «ambient_dim» «block_dim» «codebook_size» «paper_rate» «wire_index_bits» «wire_rate» «norm_format» «rotation_seed» «codebook_seed» «source_mode» «radius_method» «direction_method» restarts iterations «training_samples» «empty_cell_policy») (now (schema .entry)) (now («rotation_algorithm» .entry)) log2 (now (matrix .entry)) (now (codewords .entry)) (length (now (output .entry))) (length (now (work .entry))) (now (bytes .entry))) (replicate (length (now (work .entry))) plusZero) (now (work .entry)) ⌝ }
+    ensures { λ r. ⌜ (let c = decodeCall
+        (profileFrom «ambient_dim» «block_dim» «codebook_size» «paper_rate» «wire_index_bits»
+        «wire_rate» «norm_format» «rotation_seed» «codebook_seed» «source_mode» «radius_method» «direction_method»
+        restarts iterations «training_samples» «empty_cell_policy»)
+        (now (schema .entry)) (now («rotation_algorithm» .entry)) log2
+        (now (matrix .entry)) (now (codewords .entry)) (now (bytes .entry))
+        (length (now (output .entry))) (length (now (work .entry))) in
+        (found r (now (whole .exit)) (now (real .exit)) ≡ crossed none (accepted (decoding c)))
+        × (now (output .exit) ≡ contents (decoding c) (now (output .entry)))
+        × (now (work .exit) ≡ ifCompleted (decodable c) (replicate (length (now (work .entry))) plusZero) (now (work .entry)))) ⌝ }
 {
     let profile = ffi_profile::profile_from(
         ambient_dim,

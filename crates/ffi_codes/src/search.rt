@@ -18,7 +18,8 @@ pub extern "C" fn fib_nearest(
     whole: &mut [u64; 4],
     real: &mut [f64; 2],
 ) -> u32
-    ensures { λ r. ⌜ found r (now (whole .exit)) (now (real .exit)) ≡ crossed foundIn (nearestAlone «codebook_size» «block_dim» (now (codewords .entry)) (now (block .entry))) ⌝ }
+    ensures { λ r. ⌜ found r (now (whole .exit)) (now (real .exit))
+        ≡ crossed foundIn (nearestAlone «codebook_size» «block_dim» (now (codewords .entry)) (now (block .entry))) ⌝ }
 {
     let answer = lloyd_alone::nearest_index(codewords, codebook_size, block_dim, block);
     match answer {
@@ -45,7 +46,8 @@ pub extern "C" fn fib_mean_error(
     whole: &mut [u64; 4],
     real: &mut [f64; 2],
 ) -> u32
-    ensures { λ r. ⌜ found r (now (whole .exit)) (now (real .exit)) ≡ crossed oneReal (meanErrorAlone «codebook_size» «block_dim» (now (codewords .entry)) (now (samples .entry))) ⌝ }
+    ensures { λ r. ⌜ found r (now (whole .exit)) (now (real .exit))
+        ≡ crossed oneReal (meanErrorAlone «codebook_size» «block_dim» (now (codewords .entry)) (now (samples .entry))) ⌝ }
 {
     let answer = lloyd_alone::mse_for_codebook(codewords, codebook_size, block_dim, samples);
     match answer {

@@ -2,29 +2,26 @@
 use mathlib.Core.Path.{_≡_, refl, sym, ap, _∙_, subst}
 use mathlib.Core.Logic.{inl, inr}
 use Prim.Native.Nat.{ℕ, zero, suc, _+_, _-_, _*_, _/_, _%_, _^_, _≤_, _<_}
-use native.Mathlib.Nat.{mul-pos, mul-comm, mul-one, zero-mul, mul-right-comm, mul-lt-mul-of-pos-right, le-of-mul-le-mul-right, eq-of-mul-eq-mul-right, eq-zero-or-pos, mod-eq-of-lt, mod-add-div', le-of-eq, lt-of-not-le, lt-of-lt-of-le, le-antisymm, le-of-suc-le-suc, lt-trans, le-trans, mul-le-mul-right}
+use native.Mathlib.Nat.{mul-pos, mul-comm, mul-one, zero-mul, mul-lt-mul-of-pos-right, eq-of-mul-eq-mul-right, eq-zero-or-pos, mod-eq-of-lt, mod-add-div', le-of-eq, lt-of-not-le, lt-of-lt-of-le, le-antisymm, le-of-suc-le-suc, lt-trans}
 use native.Mathlib.Omega.{arith}
 use mathlib.Core.Bool.{Bool, true, false, not, _&&_}
-use mathlib.Core.List.{List, [], _∷_}
-use lib.Dec.{T, ltb, leb, eqb, ltb→lt, nltb→le}
-use lib.ListN.{length}
+use mathlib.Core.List.{[], _∷_}
+use lib.Dec.{T, ltb, leb, ltb→lt, nltb→le}
 use lib.Pow.{pow-pos}
 use lib.IntN.{negsuc}
 use lib.Ieee.{Float, nan, inf, fin, up, down, lt}
 use lib.Ieee.Fits.{down-pos}
 use lib.Ieee.Exact.{HasValue}
 use lib.Ieee.Scale.{finite}
-use borrow.Author.Tests.{lt-ltb, le-leb, lt-leb, eq-eqb, not-false, ltb-true, eqb-true}
+use borrow.Author.Tests.{lt-ltb, le-leb, lt-leb, eq-eqb, not-false, ltb-true}
 use Rattle.error.specs.Numbers.{completed}
 use Rattle.error.proofs.Outcomes.{both, passed, completed-same}
 use Rattle.ieee.specs.Sum.{plusZero}
-use Rattle.ieee.specs.Bounds.{Upto}
-use Rattle.ieee.proofs.Value.{holds-true}
 use Rattle.narrow.specs.Format.{lowOf, infOf, topOf, unitsOf, unpacked}
 use Rattle.narrow.specs.Pack.{packed, narrowTo}
 use Rattle.narrow.proofs.ToNearest.{units-le}
 use Rattle.narrow.proofs.Unpacked.{unpacked-value}
-use Rattle.norm.specs.Norm.{aboveZero, halfOf, patternOf, normBits, normValue}
+use Rattle.norm.specs.Norm.{aboveZero, halfOf, normBits, normValue}
 
 and-true : (b : Bool) → b && true ≡ b
 and-true true = refl
@@ -136,59 +133,6 @@ norm-written x b e =
     let i = sym (completed-same (halfOf x) b (g .1)) in
     let r = norm-pattern (halfOf x) (not-false _ (g .0)) in
     record { codable = not-false _ (f .0); is = i; above = omega arith; below = omega arith }
-
--- a finite value above zero, at most the largest of binary16
-pub record Read (bytes : List ℕ) (x : Float) : Type 0 where
-  pub two-bytes : length bytes ≡ 2
-  pub is : x ≡ unpacked 11 15 (patternOf bytes)
-  pub is-finite : T (finite x)
-  pub above-zero : T (lt plusZero x)
-  pub upto : Upto x 65504
-
--- the largest pattern's value
-most : unitsOf 11 31743 ≡ 65504 * 2 ^ 24
-unfolding unitsOf
-most = refl
-
-most-units : (b : ℕ) → b < infOf 11 15 → unitsOf 11 b ≤ 65504 * 2 ^ 24
-most-units b h = le-of-suc-le-suc (lt-of-not-le over)
-  where
-    over : suc (65504 * 2 ^ 24) ≤ unitsOf 11 b → ⊥
-    over g =
-        let m = most in
-        let l = units-le 11 31743 b (omega arith) in
-        let e : b ≡ 31743 = omega arith in
-        let u : unitsOf 11 b ≡ unitsOf 11 31743 = ap (unitsOf 11) e in
-        omega arith
-
-value-upto : (x : Float) (s : Bool) (a c A : ℕ) → 0 < c → HasValue x s a c → a ≤ A * c → Upto x A
-value-upto nan s a c A C v h = absurd v
-value-upto (inf t) s a c A C v h = absurd v
-value-upto (fin t m e) s a c A C v h =
-    rw (mul-one (m * up e)) (le-of-mul-le-mul-right (le-trans (le-of-eq (v .1)) (le-trans (mul-le-mul-right (down e) h) (le-of-eq (mul-right-comm A c (down e))))) C)
-
-pattern-upto : (b : ℕ) → b < infOf 11 15 → Upto (unpacked 11 15 b) 65504
-pattern-upto b h =
-    let e : b % topOf 11 15 ≡ b = mod-eq-of-lt (omega arith) in
-    let l : b % topOf 11 15 < infOf 11 15 = omega arith in
-    value-upto (unpacked 11 15 b) (leb (topOf 11 15) b) (unitsOf 11 (b % topOf 11 15)) (2 ^ 24) 65504 (pow-pos 24) (unpacked-value 11 15 b l) (most-units (b % topOf 11 15) l)
-
-pub norm-read : (bytes : List ℕ) (x : Float) → normValue bytes ≡ completed x → Read bytes x
-unfolding normValue
-norm-read bytes x e =
-    let f = passed (not (eqb (length bytes) 2)) 10 [] _ x e in
-    let g = passed (not (aboveZero (unpacked 11 15 (patternOf bytes)))) 10 [] _ x (f .1) in
-    let i = sym (completed-same (unpacked 11 15 (patternOf bytes)) x (g .1)) in
-    let p : aboveZero (unpacked 11 15 (patternOf bytes)) ≡ true = not-false _ (g .0) in
-    let r = norm-pattern (patternOf bytes) p in
-    let s = both (finite x) (lt plusZero x) (ap aboveZero i ∙ p) in
-    record {
-      two-bytes = eqb-true (length bytes) 2 (not-false _ (f .0));
-      is = i;
-      is-finite = holds-true (s .0);
-      above-zero = holds-true (s .1);
-      upto = subst (λ (y : Float). Upto y 65504) (sym i) (pattern-upto (patternOf bytes) (r .1));
-    }
 
 -- what is written is read back
 pub read-back : (b : ℕ) → 0 < b → b < infOf 11 15 → normValue (b % 256 ∷ b / 256 ∷ []) ≡ completed (unpacked 11 15 b)

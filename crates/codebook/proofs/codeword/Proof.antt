@@ -64,7 +64,7 @@ mul-widen-row c = record { fits = omega (arith, within c) }
 widen-row-requires : tie.Need-widen-row-requires
 widen-row-requires c κs =
     let a = c .before .before .before .before .before .before .before .args in
-    (within (c .before), le-of-eq (zero-add (a .block-dim) ∙ sym (c .before .before .if2 .left)))
+    (omega (arith, within (c .before)), le-of-eq (zero-add (a .block-dim) ∙ sym (c .before .before .if2 .left)))
 
 same-length : tie.Need-same-length
 same-length c = search needs

@@ -1,7 +1,7 @@
 -- `decode::reconstruct` meets its contract: gathered, rotated back, scaled; then either refused with the work zeroed, or copied out. Assumes nothing.
-use mathlib.Core.Path.{_≡_, refl, sym, ap, _∙_}
+use mathlib.Core.Path.{_≡_, sym, ap, _∙_}
 use mathlib.Core.List.{List, [], _∷_}
-use Prim.Native.Nat.{ℕ, _+_, _*_, _≤_, _<_}
+use Prim.Native.Nat.{ℕ, _*_}
 use lib.ListN.{length, replicate}
 use lib.Ieee.{Float}
 use Rattle.error.specs.Numbers.{completed, refused, whole, accepted, contents}
@@ -62,7 +62,7 @@ returns c =
     let z = c .before .before .before .before .before .before .before .before .before in
     let s = z .before .before .before .before .before .before .before .before .before .before .before .before .before .before .before in
     let r = refuses (asked z) (s .args .output .now) (c .before .before .before .before .before .bad .given .0 .0) (sym (found z) ∙ c .before .before .before .before .before .bad .given .1) in
-    (r .0, (r .1, zeroed _ _ _ (c .before .before .zero-f64 .ensures) (same z)))
+    (r .0, r .1, zeroed _ _ _ (c .before .before .zero-f64 .ensures) (same z))
 
 enum-told : tie.Need-enum-told
 enum-told c = search needs
@@ -94,7 +94,7 @@ returns-2 c =
     let g = z .before .before .before .before .before .before .before .before in
     let s = z .before .before .before .before .before .before .before .before .before .before .before .before .before .before .before in
     let r = answers (asked z) (s .args .output .now) (clean (c .before .before .before .before .before .before .before .before .before)) in
-    (r .0, (c .before .before .before .before .before .before .copy-out .ensures ∙ copied (length (s .args .output .now)) (s .args .k) (s .args .matrix .now) (s .args .codewords .now) (unpackedIndices (s .args .indices .now) (s .args .count) (s .args .width)) (s .args .norm) (s .args .work .now) (g .gather .last .1 .1 .1 .1 .1 .0) (q .rotate-back-within .last .1 .0) (s .args .count * s .args .k) (s .pre .blocks) (s .pre .halves) (g .gather .ensures) (q .rotate-back-within .ensures) (z .scale .last .1 .0) (z .scale .ensures .1) ∙ r .1, zeroed _ _ _ (c .before .before .zero-f642 .ensures) (same z)))
+    (r .0, c .before .before .before .before .before .before .copy-out .ensures ∙ copied (length (s .args .output .now)) (s .args .k) (s .args .matrix .now) (s .args .codewords .now) (unpackedIndices (s .args .indices .now) (s .args .count) (s .args .width)) (s .args .norm) (s .args .work .now) (g .gather .last .1 .1 .1 .1 .1 .0) (q .rotate-back-within .last .1 .0) (s .args .count * s .args .k) (s .pre .blocks) (s .pre .halves) (g .gather .ensures) (q .rotate-back-within .ensures) (z .scale .last .1 .0) (z .scale .ensures .1) ∙ r .1, zeroed _ _ _ (c .before .before .zero-f642 .ensures) (same z))
 
 pub reconstruct-spec : {M : Type 1} → statement M
 reconstruct-spec =

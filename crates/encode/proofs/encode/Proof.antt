@@ -1,63 +1,86 @@
--- `encode::encode` meets its contract: the checks, and then the frame. Assumes nothing.
+-- `encode::encode` meets its contract: the checks, the norm, and then the frame. Assumes nothing.
 use mathlib.Core.Path.{_≡_, sym, ap, _∙_}
 use mathlib.Core.List.{List}
-use Prim.Native.Nat.{ℕ, _/_}
+use Prim.Native.Nat.{ℕ}
 use lib.ListN.{length, replicate}
 use lib.Ieee.{Float}
-use Rattle.error.specs.Numbers.{Outcome, completed, ifCompleted, accepted, contents}
+use Rattle.error.specs.Numbers.{Outcome, completed, checked, ifCompleted, accepted, contents}
 use Rattle.ieee.specs.Sum.{plusZero}
-use Rattle.bitpack.specs.Layout.{packedBytes}
-use Rattle.compact.specs.Frame.{bytesOf, frameOf}
 use Rattle.norm.specs.Norm.{bitsOf}
-use Rattle.encode.specs.Encode.{searched, indicesFor, frameFor, codable}
-use Rattle.encode.proofs.CheckLaw.{code-refused, encoding-is}
-use Rattle.encode.proofs.AcceptLaw.{Codable, codable-accepted, writable, codewords-finite}
+use Rattle.encode.specs.Encode.{EncodeCall, encodeCall, normed, fitting, codable}
+use Rattle.encode.proofs.CheckLaw.{code-unfit, code-norm, code-refused, encoding-is}
+use Rattle.encode.proofs.AcceptLaw.{Fitting, fitting-accepted, writable, codewords-finite}
 use borrow.Author.Needs.{needs}
 use Rattle.encode.proofs.encode.Statement.{statement}
 use Rattle.encode.proofs.encode.Tie as tie
 
-l2-norm-requires : tie.Need-l2-norm-requires
-l2-norm-requires c κs = search needs
+-- the call that the arguments make
+abbrev call-of : tie.Start → EncodeCall
+call-of s =
+    let a = s .args in
+    encodeCall (a .profile) (a .schema .now) (a .rotation-algorithm .now) (a .log2) (a .matrix .now) (a .codewords .now) (a .input .now) (length (a .output .now)) (length (a .work .now))
 
-check-input-requires : tie.Need-check-input-requires
-check-input-requires c κs = search needs
+-- the float work that is left
+abbrev zeros : tie.Start → List Float
+zeros s = replicate (length (s .args .work .now)) plusZero
+
+check-call-requires : tie.Need-check-call-requires
+check-call-requires c κs = search needs
 
 enum-known-checks : tie.Need-enum-known-checks
 enum-known-checks c = search needs
 
-enum-known-checks-2 : tie.Need-enum-known-checks-2
-enum-known-checks-2 c = search needs
+returns : tie.Need-returns
+returns c =
+    let s = c .before .before .before .before .before .before .before .before .before .before .before in
+    let r = c .before .checks .given .0 .0 in
+    code-refused (call-of s) r (s .args .output .now) (zeros s) (s .args .work .now)
+    (code-unfit (call-of s) r (sym (c .before .before .before .check-call .ensures) ∙ ap checked (c .before .checks .given .1)))
 
--- the checks are passed
-codes : (c : tie.After-known-told2) → let a = c .before .before .before .before .before .before .before .before .before .before .before .before .args in codable (a .profile) (a .schema .now) (a .rotation-algorithm .now) (a .log2) (a .matrix .now) (a .codewords .now) (a .input .now) (length (a .output .now)) (length (a .work .now)) ≡ completed (c .before .checks2 .given .0 .0)
-codes c = sym (c .before .before .before .check-input .ensures) ∙ ap bitsOf (c .before .checks2 .given .1)
+enum-told : tie.Need-enum-told
+enum-told c = search needs
 
-passes : (c : tie.After-known-told2) → let a = c .before .before .before .before .before .before .before .before .before .before .before .before .args in Codable (a .profile) (a .schema .now) (a .rotation-algorithm .now) (a .log2) (a .matrix .now) (a .codewords .now) (a .input .now) (length (a .output .now)) (length (a .work .now)) (c .before .checks2 .given .0 .0)
-passes c = let a = c .before .before .before .before .before .before .before .before .before .before .before .before .args in codable-accepted (a .profile) (a .schema .now) (a .rotation-algorithm .now) (a .log2) (a .matrix .now) (a .codewords .now) (a .input .now) (length (a .output .now)) (length (a .work .now)) (c .before .checks2 .given .0 .0) (codes c)
+-- ---- the profile, the lengths and the values pass
+abbrev start-of : tie.After-enum-told → tie.Start
+start-of c = c .before .before .before .before .before .before .before .before .before .before
 
-div-count : tie.Need-div-count
-div-count c = passes c .valid .shape .some-block
+fits : (c : tie.After-enum-told) → fitting (call-of (start-of c)) ≡ completed tt
+fits c = sym (c .before .before .check-call .ensures) ∙ ap checked (c .enum-told .given .1)
 
-cast-write-code : tie.Need-cast-write-code
-cast-write-code c = search needs
+passes : (c : tie.After-enum-told) → Fitting (call-of (start-of c))
+passes c = fitting-accepted (call-of (start-of c)) (fits c)
 
-cast-write-code-2 : tie.Need-cast-write-code-2
-cast-write-code-2 c = search needs
+l2-norm-requires : tie.Need-l2-norm-requires
+l2-norm-requires c κs = search needs
+
+check-norm-requires : tie.Need-check-norm-requires
+check-norm-requires c κs = search needs
+
+-- the answer of the norm's checks is that of all checks
+coded : (c : tie.After-check-norm) → bitsOf (c .check-norm .result) ≡ codable (call-of (start-of (c .before .before)))
+coded c =
+    let d = call-of (start-of (c .before .before)) in
+    c .check-norm .ensures ∙ ap (normed (d .input)) (c .before .l2-norm .ensures) ∙ sym (code-norm d (fits (c .before .before)))
+
+enum-known-pattern : tie.Need-enum-known-pattern
+enum-known-pattern c = search needs
+
+enum-known-pattern-2 : tie.Need-enum-known-pattern-2
+enum-known-pattern-2 c = search needs
 
 write-code-requires : tie.Need-write-code-requires
 write-code-requires c κs =
-    let k = c .before .before in
-    let a = k .before .before .before .before .before .before .before .before .before .before .before .before .args in
-    let bits = k .before .checks2 .given .0 .0 in (
-      writable (a .profile) (a .schema .now) (a .rotation-algorithm .now) (a .log2) (a .matrix .now) (a .codewords .now) (a .input .now) (length (a .output .now)) (length (a .work .now)) bits (passes k),
-      codewords-finite (a .profile) (a .schema .now) (a .rotation-algorithm .now) (a .log2) (a .matrix .now) (a .codewords .now) (a .input .now) (length (a .output .now)) (length (a .work .now)) bits (passes k),
-    )
+    let n = c .before .before .before .before .before in
+    let t = n .before .before in
+    let d = call-of (start-of t) in
+    (writable d (passes t), codewords-finite d (passes t), n .before .l2-norm .ensures)
 
-returns : tie.Need-returns
-returns c =
-    let a = c .before .before .before .before .before .before .before .before .before .before .before .before .args in
-    let r = code-refused (a .profile) (a .schema .now) (a .rotation-algorithm .now) (a .log2) (a .matrix .now) (a .codewords .now) (a .input .now) (length (a .output .now)) (length (a .work .now)) (c .before .checks .given .0 .0) (a .output .now) (replicate (length (a .work .now)) plusZero) (a .work .now) (sym (c .before .before .before .check-input .ensures) ∙ ap bitsOf (c .before .checks .given .1)) in
-    (r .0, (r .1, r .2))
+returns-2 : tie.Need-returns-2
+returns-2 c =
+    let n = c .before .before .before in
+    let s = start-of (n .before .before) in
+    code-refused (call-of s) (c .before .pattern .given .0 .0) (s .args .output .now) (zeros s) (s .args .work .now)
+    (sym (coded n) ∙ ap bitsOf (c .before .pattern .given .1))
 
 same-length : tie.Need-same-length
 same-length c = search needs
@@ -65,35 +88,32 @@ same-length c = search needs
 same-length-2 : tie.Need-same-length-2
 same-length-2 c = search needs
 
-returns-2 : tie.Need-returns-2
-returns-2 c =
+returns-3 : tie.Need-returns-3
+returns-3 c =
     let k = c .before .before .before .before .before .before .before in
-    let a = k .before .before .before .before .before .before .before .before .before .before .before .before .args in
-    let p = a .profile in
-    let bits = k .before .checks2 .given .0 .0 in
+    let n = k .before .before .before in
+    let s = start-of (n .before .before) in
     let said = c .before .before .before .before .write-code .ensures in
-    let whole = sym (encoding-is (a .profile) (a .schema .now) (a .rotation-algorithm .now) (a .log2) (a .matrix .now) (a .codewords .now) (a .input .now) (length (a .output .now)) (length (a .work .now)) bits (codes k)) in
-    let frame : c .before .before .before .before .write-code .last .1 .1 .1 .1 .1 .1 .1 .1 .1 .0 ≡ frameFor p (a .matrix .now) (a .codewords .now) (a .input .now) bits =
-    said .0
-    ∙ ap (λ (d : ℕ). frameOf (p .«wire_index_bits») (p .«ambient_dim» / p .«block_dim») (bytesOf 2 bits) (packedBytes (indicesFor (p .«ambient_dim» / p .«block_dim») (p .«block_dim») (p .«codebook_size») (a .codewords .now) (searched d (a .matrix .now) (a .input .now) (k .before .before .before .before .l2-norm .result))) (p .«wire_index_bits»))) (passes k .input-length)
-    ∙ ap (λ (x : Float). frameOf (p .«wire_index_bits») (p .«ambient_dim» / p .«block_dim») (bytesOf 2 bits) (packedBytes (indicesFor (p .«ambient_dim» / p .«block_dim») (p .«block_dim») (p .«codebook_size») (a .codewords .now) (searched (p .«ambient_dim») (a .matrix .now) (a .input .now) x)) (p .«wire_index_bits»))) (k .before .before .before .before .l2-norm .ensures) in (
+    let whole = sym (encoding-is (call-of s) (k .before .pattern2 .given .0 .0) (sym (coded n) ∙ ap bitsOf (k .before .pattern2 .given .1))) in (
       ap (λ (o : Outcome (List ℕ)). accepted o) whole,
-      (frame ∙ ap (λ (o : Outcome (List ℕ)). contents o (a .output .now)) whole, said .1 ∙ ap (λ (o : Outcome (List ℕ)). ifCompleted o (replicate (length (a .work .now)) plusZero) (a .work .now)) whole),
+      said .0 ∙ ap (λ (o : Outcome (List ℕ)). contents o (s .args .output .now)) whole,
+      said .1 ∙ ap (λ (o : Outcome (List ℕ)). ifCompleted o (zeros s) (s .args .work .now)) whole,
     )
 
 pub encode-spec : {M : Type 1} → statement M
 encode-spec =
     tie.close
     (tie.spec
-    l2-norm-requires
-    check-input-requires
+    check-call-requires
     enum-known-checks
-    enum-known-checks-2
-    div-count
-    cast-write-code
-    cast-write-code-2
-    write-code-requires
     returns
+    enum-told
+    l2-norm-requires
+    check-norm-requires
+    enum-known-pattern
+    enum-known-pattern-2
+    write-code-requires
+    returns-2
     same-length
     same-length-2
-    returns-2)
+    returns-3)

@@ -1,7 +1,7 @@
 -- `encode::write_code` meets its contract: normalized, rotated, rounded, searched; then the work is zeroed. Assumes nothing.
-use mathlib.Core.Path.{_≡_, refl, sym, ap, _∙_}
+use mathlib.Core.Path.{_≡_, refl, ap, _∙_}
 use mathlib.Core.List.{List}
-use Prim.Native.Nat.{ℕ, _+_, _*_, _-_, _≤_}
+use Prim.Native.Nat.{ℕ, _-_, _/_}
 use native.Mathlib.Omega.{arith}
 use lib.ListN.{length, take, drop, replicate, length-drop}
 use lib.Seq.{take-all}
@@ -16,6 +16,9 @@ use borrow.Author.Needs.{needs}
 use Rattle.encode.proofs.write_code.Statement.{statement}
 use Rattle.encode.proofs.write_code.Tie as tie
 
+div-count : tie.Need-div-count
+div-count c = search needs
+
 normalize-requires : tie.Need-normalize-requires
 normalize-requires c κs = search needs
 
@@ -24,6 +27,12 @@ rotate-within-requires c κs = search needs
 
 round-half-requires : tie.Need-round-half-requires
 round-half-requires c κs = search needs
+
+cast-write-frame : tie.Need-cast-write-frame
+cast-write-frame c = search needs
+
+cast-write-frame-2 : tie.Need-cast-write-frame-2
+cast-write-frame-2 c = search needs
 
 mul-write-frame : tie.Need-mul-write-frame
 mul-write-frame c = search needs
@@ -37,11 +46,14 @@ part-write-frame-start c = search needs
 part-write-frame-end : tie.Need-part-write-frame-end
 part-write-frame-end c = search needs
 
+abbrev start-of : tie.After-write-frame-arg2 → tie.Start
+start-of c = c .before .before .before .before .before .before .before .before .before .before .before .before .before .before .before .before .before .before .before .before .before
+
 -- the values that the search sees
-values : (c : tie.After-write-frame-arg2) → let a = c .before .before .before .before .before .before .before .before .before .before .before .before .before .before .before .before .before .before .before .before .args in let w = c .before .before .before .before .before .round-half .last .0 in
+values : (c : tie.After-write-frame-arg2) → let a = start-of c .args in let w = c .before .before .before .before .before .round-half .last .0 in
     take (length w - length (a .input .now)) (drop (length (a .input .now)) w) ≡ searched (length (a .input .now)) (a .matrix .now) (a .input .now) (a .norm)
 values c =
-    let s = c .before .before .before .before .before .before .before .before .before .before .before .before .before .before .before .before .before .before .before .before in
+    let s = start-of c in
     let a = s .args in
     let r₁ = c .before .before .before .before .before .before .before .before .before .before .before .before .before .normalize in
     let r₂ = c .before .before .before .before .before .before .before .before .before .rotate-within in
@@ -50,12 +62,12 @@ values c =
     take-all (length (r₃ .last .0) - d) (drop d (r₃ .last .0)) (rw (length-drop d (r₃ .last .0)) (omega arith))
     ∙ seen d (a .matrix .now) (a .input .now) (a .norm) (a .work .now) (r₁ .last .1 .1 .0) (r₂ .last .1 .0) (r₃ .last .0) d refl (s .pre .0 .halves) (r₁ .ensures) (r₂ .ensures) (r₃ .ensures)
 
-same : (c : tie.After-write-frame-arg2) → length (c .before .before .before .before .before .round-half .last .0) ≡ length (c .before .before .before .before .before .before .before .before .before .before .before .before .before .before .before .before .before .before .before .before .args .work .now)
+same : (c : tie.After-write-frame-arg2) → length (c .before .before .before .before .before .round-half .last .0) ≡ length (start-of c .args .work .now)
 same c = c .before .before .before .before .before .round-half .kept .0 ∙ c .before .before .before .before .before .before .before .before .before .rotate-within .kept .1 .0 ∙ c .before .before .before .before .before .before .before .before .before .before .before .before .before .normalize .kept .1 .1 .0
 
 write-frame-requires : tie.Need-write-frame-requires
 write-frame-requires c κs =
-    let s = c .before .before .before .before .before .before .before .before .before .before .before .before .before .before .before .before .before .before .before .before in
+    let s = start-of c in
     let a = s .args in
     let q = s .pre .0 in (
       record {
@@ -83,8 +95,14 @@ same-length-2 c = search needs
 returns : tie.Need-returns
 returns c =
     let f = c .before .before .before .before .before .before .before in
-    let a = f .before .before .before .before .before .before .before .before .before .before .before .before .before .before .before .before .before .before .before .before .args in (
-      c .before .before .before .before .before .before .write-frame .ensures ∙ ap (λ (xs : List Float). frameOf (a .width) (a .count) (bytesOf 2 (a .bits)) (packedBytes (indicesFor (a .count) (a .k) (a .n) (a .codewords .now) xs) (a .width))) (values f),
+    let s = start-of f in
+    let a = s .args in
+    let p = a .profile in
+    let count = p .«ambient_dim» / p .«block_dim» in
+    let frame : List Float → List ℕ = λ xs. frameOf (p .«wire_index_bits») count (bytesOf 2 (a .bits)) (packedBytes (indicesFor count (p .«block_dim») (p .«codebook_size») (a .codewords .now) xs) (p .«wire_index_bits»)) in (
+      c .before .before .before .before .before .before .write-frame .ensures ∙ ap frame (values f)
+          ∙ ap (λ (d : ℕ). frame (searched d (a .matrix .now) (a .input .now) (a .norm))) (s .pre .0 .whole)
+          ∙ ap (λ (x : Float). frame (searched (p .«ambient_dim») (a .matrix .now) (a .input .now) x)) (s .pre .2),
       c .before .before .zero-f64 .ensures ∙ ap (λ (z : ℕ). replicate z plusZero) (same f),
     )
 
@@ -92,9 +110,12 @@ pub write-code-spec : {M : Type 1} → statement M
 write-code-spec =
     tie.close
     (tie.spec
+    div-count
     normalize-requires
     rotate-within-requires
     round-half-requires
+    cast-write-frame
+    cast-write-frame-2
     mul-write-frame
     sub-write-frame
     part-write-frame-start
