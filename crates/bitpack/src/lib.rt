@@ -1,10 +1,11 @@
 // Indices of a fixed width packed into bytes, low bit first, and read back.
 ghost use mathlib.Core.Path.{_≡_};
-ghost use mathlib.Core.List.{List, _++_};
+ghost use mathlib.Core.List.{List};
 ghost use Prim.Native.Nat.{ℕ, _+_, _*_, _-_, _^_, _≤_, _<_};
-ghost use lib.ListN.{length, drop, getD};
+ghost use lib.ListN.{length, getD};
 ghost use Rattle.error.specs.Numbers.{checked, ifCompleted};
-ghost use Rattle.bitpack.specs.Layout.{field, byteOf, listOf, bytesFor, packedBytes, unpackedIndices, paddingFrom};
+ghost use Rattle.slices.specs.Lists.{filled};
+ghost use Rattle.bitpack.specs.Layout.{field, byteOf, bytesFor, packedBytes, unpackedIndices, paddingFrom};
 ghost use Rattle.bitpack.specs.Answers.{sized, packedSize, scanned, inRange, packable, unpackable};
 ghost use Rattle.bitpack.specs.Cursor.{ReaderAt, Pullable, PulledAt, WriterAt, Pushable, Finishable};
 use error::Checked;
@@ -119,7 +120,9 @@ impl BitWriter {
     // The last byte, if only a part of it was pushed. Public only for the codec.
     pub fn finish(self, out: &mut [u8])
         requires { ⌜ Finishable (now out) self ⌝ }
-        ensures { λ r. ⌜ ((f : ℕ → ℕ) (p : ℕ) (old : List ℕ) → WriterAt f p old (now (out .entry)) self → ((j : ℕ) → p ≤ j → f j ≡ 0) → now (out .exit) ≡ listOf (byteOf f) (bytesFor p) ++ drop (bytesFor p) old) ⌝ }
+        ensures { λ r. ⌜ ((f : ℕ → ℕ) (p : ℕ) (old : List ℕ)
+            → WriterAt f p old (now (out .entry)) self → ((j : ℕ) → p ≤ j → f j ≡ 0)
+            → now (out .exit) ≡ filled (bytesFor p) (byteOf f) old) ⌝ }
     {
         let at = self.at;
         if 0 < self.have {
@@ -205,7 +208,8 @@ pub fn pack_indices(indices: &[u32], width: u8, output: &mut [u8]) -> Checked
     }
 }
 
-// The number of the bits after the first `total`, in a byte string of the length that these take. Public only for the codec.
+// The value of the bits after the first `total`, in a byte string of the length that these take. Public only for the
+// codec.
 pub fn padding(bytes: &[u8], total: u64) -> u64
     requires { ⌜ length (now bytes) ≡ bytesFor total ⌝ }
     ensures { λ r. ⌜ r ≡ paddingFrom (now (bytes .entry)) total ⌝ }
