@@ -25,11 +25,12 @@ pub enum Scan {
     Offending(u32),
 }
 
-// A place in a packed byte string: `at` is the next byte to read, `acc` the `have` bits that were read and not yet handed out.
+// A place in a packed byte string, made only by `new` and `pull`: `at` is the next byte to read, `acc` the `have` bits
+// that were read and not yet handed out.
 pub struct BitReader {
-    pub at: usize,
-    pub acc: u64,
-    pub have: u64,
+    at: usize,
+    acc: u64,
+    have: u64,
 }
 
 // A value and the place after it.
@@ -38,11 +39,12 @@ pub struct Pulled {
     pub next: BitReader,
 }
 
-// A place in a byte string that is being packed: `at` is the next byte to write, `acc` the `have` bits that await it.
+// A place in a byte string that is being packed, made only by `new` and `push`: `at` is the next byte to write, `acc` the
+// `have` bits that await it.
 pub struct BitWriter {
-    pub at: usize,
-    pub acc: u64,
-    pub have: u64,
+    at: usize,
+    acc: u64,
+    have: u64,
 }
 
 impl BitReader {
