@@ -2,10 +2,12 @@
 // specs/Frame.antt has the layout.
 ghost use mathlib.Core.Path.{_≡_};
 ghost use mathlib.Core.List.{_++_};
-ghost use Prim.Native.Nat.{_+_, _≤_, _<_};
+ghost use Prim.Native.Nat.{_+_, _*_, _≤_, _<_};
 ghost use lib.ListN.{length, take, drop};
 ghost use Rattle.error.specs.Numbers.{checked, ifCompleted};
-ghost use Rattle.compact.specs.Frame.{header, frameOf, packedLength, magicIn, countIn, normLengthIn, parsed, writing, outcomeOf, Within};
+ghost use Rattle.bitpack.specs.Layout.{bytesFor};
+ghost use Rattle.compact.specs.Frame.{header, frameOf, magicIn, countIn, normLengthIn};
+ghost use Rattle.compact.specs.Frame.{parsed, writing, outcomeOf, Within};
 use error::Checked;
 use error::Refusal;
 use error::names;
@@ -123,7 +125,7 @@ fn read_norm_len(bytes: &[u8]) -> u16
 
 // The bytes that count indices of width bits take.
 fn packed_length(width: u8, count: u32) -> usize
-    ensures { λ r. ⌜ r ≡ packedLength width count ⌝ }
+    ensures { λ r. ⌜ r ≡ bytesFor (count * width) ⌝ }
 {
     ((count as usize) * (width as usize) + 7) / 8
 }
