@@ -102,7 +102,9 @@ impl BitWriter {
     // `value` as `width` bits, after what was pushed before. Public only for the codec.
     pub fn push(self, value: u32, width: u8, out: &mut [u8]) -> BitWriter
         requires { ⌜ Pushable (now out) value width self ⌝ }
-        ensures { λ r. ⌜ ((f : ℕ → ℕ) (p : ℕ) (old : List ℕ) → WriterAt f p old (now (out .entry)) self → value ≡ field f p width → WriterAt f (p + width) old (now (out .exit)) r) ⌝ }
+        ensures { λ r. ⌜ ((f : ℕ → ℕ) (p : ℕ) (old : List ℕ)
+            → WriterAt f p old (now (out .entry)) self → value ≡ field f p width
+            → WriterAt f (p + width) old (now (out .exit)) r) ⌝ }
     {
         let w = width as u64;
         let mut at = self.at;
@@ -169,7 +171,8 @@ fn first_above(indices: &[u32], bound: u32) -> Scan
 
 // The packing of indices that all fit, into a buffer of its length.
 fn write_indices(indices: &[u32], width: u8, output: &mut [u8])
-    requires { ⌜ (width ≤ 32) × ((i : ℕ) → getD (now indices) i 0 < 2 ^ width) × (length (now output) ≡ bytesFor (length (now indices) * width)) ⌝ }
+    requires { ⌜ (width ≤ 32) × ((i : ℕ) → getD (now indices) i 0 < 2 ^ width)
+        × (length (now output) ≡ bytesFor (length (now indices) * width)) ⌝ }
     ensures { λ r. ⌜ now (output .exit) ≡ packedBytes (now (indices .entry)) width ⌝ }
 {
     let mut writer = BitWriter::new();
@@ -183,8 +186,9 @@ fn write_indices(indices: &[u32], width: u8, output: &mut [u8])
 
 // The packing of the indices into the output, which has its length.
 pub fn pack_indices(indices: &[u32], width: u8, output: &mut [u8]) -> Checked
-    ensures { λ r. ⌜ checked r ≡ packable (now (indices .entry)) width (length (now (output .entry))) ⌝ }
-    ensures { λ r. ⌜ now (output .exit) ≡ ifCompleted (packable (now (indices .entry)) width (length (now (output .entry)))) (packedBytes (now (indices .entry)) width) (now (output .entry)) ⌝ }
+    ensures { λ r. ⌜ (let o = packable (now (indices .entry)) width (length (now (output .entry))) in
+        (checked r ≡ o)
+        × (now (output .exit) ≡ ifCompleted o (packedBytes (now (indices .entry)) width) (now (output .entry)))) ⌝ }
 {
     let size = packed_size(indices.len() as u64, width);
     match size {
@@ -239,10 +243,13 @@ fn read_indices(bytes: &[u8], width: u8, output: &mut [u32])
     }
 }
 
-// The `count` indices of a packing into the output, which has room for just these. A packing with a padding bit set is refused.
+// The `count` indices of a packing into the output, which has room for just these. A packing with a padding bit set is
+// refused.
 pub fn unpack_indices(bytes: &[u8], count: u64, width: u8, output: &mut [u32]) -> Checked
-    ensures { λ r. ⌜ checked r ≡ unpackable (now (bytes .entry)) count width (length (now (output .entry))) ⌝ }
-    ensures { λ r. ⌜ now (output .exit) ≡ ifCompleted (unpackable (now (bytes .entry)) count width (length (now (output .entry)))) (unpackedIndices (now (bytes .entry)) count width) (now (output .entry)) ⌝ }
+    ensures { λ r. ⌜ (let o = unpackable (now (bytes .entry)) count width (length (now (output .entry))) in
+        (checked r ≡ o)
+        × (now (output .exit)
+        ≡ ifCompleted o (unpackedIndices (now (bytes .entry)) count width) (now (output .entry)))) ⌝ }
 {
     let size = packed_size(count, width);
     match size {

@@ -30,7 +30,10 @@ pub enum Parsed {
 // Copies part into output from the place at on. Public only for the encoder's crate.
 pub fn write_part(part: &[u8], output: &mut [u8], at: usize)
     requires { ⌜ at + length (now part) ≤ length (now output) ⌝ }
-    ensures { λ r. ⌜ now (output .exit) ≡ take at (now (output .entry)) ++ now (part .entry) ++ drop (at + length (now (part .entry))) (now (output .entry)) ⌝ }
+    ensures { λ r. ⌜ now (output .exit)
+        ≡ take at (now (output .entry))
+        ++ now (part .entry)
+        ++ drop (at + length (now (part .entry))) (now (output .entry)) ⌝ }
 {
     let mut i = 0;
     while i < part.len() {
@@ -71,8 +74,10 @@ pub fn write_compact(
     indices: &[u8],
     output: &mut [u8],
 ) -> Checked
-    ensures { λ r. ⌜ checked r ≡ writing (now (norm .entry)) (now (indices .entry)) (now (output .entry)) ⌝ }
-    ensures { λ r. ⌜ now (output .exit) ≡ ifCompleted (writing (now (norm .entry)) (now (indices .entry)) (now (output .entry))) (frameOf width count (now (norm .entry)) (now (indices .entry))) (now (output .entry)) ⌝ }
+    ensures { λ r. ⌜ (let o = writing (now (norm .entry)) (now (indices .entry)) (now (output .entry)) in
+        (checked r ≡ o)
+        × (now (output .exit)
+        ≡ ifCompleted o (frameOf width count (now (norm .entry)) (now (indices .entry))) (now (output .entry)))) ⌝ }
 {
     let norm_len = norm.len();
     if 65535 < norm_len {
