@@ -1,19 +1,22 @@
--- Laws of the checks: the division that finds a size past 2^64 - 1, the first index above a bound, and the two answers check by check. Assumes nothing.
+-- Laws of the checks: the division that finds a size past 2^64 - 1, the first index above a bound, and the two answers
+-- check by check. Assumes nothing.
 use Prim.Native.Nat.{ℕ, zero, suc, _+_, _*_, _-_, _/_, _^_, _<_, _≤_}
-use mathlib.Core.Path.{_≡_, refl}
-use mathlib.Core.Bool.{Bool, true, false, cond, not, _&&_}
+use mathlib.Core.Path.{_≡_, refl, sym, _∙_}
+use mathlib.Core.Bool.{Bool, true, false, cond}
 use mathlib.Core.List.{List, [], _∷_}
-use mathlib.Core.Logic.{_⊎_, inl, inr, ⊎-elim}
+use mathlib.Core.Logic.{inl, inr, ⊎-elim}
 use native.Mathlib.Nat.{le-div-iff-mul-le, div-lt-iff-lt-mul}
 use native.Mathlib.Numerals.{add-one}
 use native.Mathlib.Omega.{arith}
 use lib.ListN.{length, getD, drop, drop-of-length-le}
 use lib.Seq.{drop-cons}
-use lib.Dec.{ltb, leb}
-use borrow.Author.Tests.{lt-ltb, le-ltb, ltb-true, ltb-false, le-leb, lt-leb, leb-true, eq-eqb, ne-eqb}
+use lib.Dec.{ltb}
+use borrow.Author.Tests.{lt-ltb, le-ltb, ltb-true, ltb-false, le-leb, lt-leb, leb-true, eq-eqb, ne-eqb, not-false}
 use Rattle.error.specs.Numbers.{Value, Outcome, completed, refused, whole}
+use Rattle.error.proofs.Outcomes.{both, never, completed-same, passed}
 use Rattle.bitpack.specs.Layout.{bytesFor, paddingFrom}
 use Rattle.bitpack.specs.Answers.{packedSize, inRange, packable, unpackable}
+use Rattle.bitpack.specs.Range.{Ranged}
 
 -- the quotient that the program compares with: at most it, the bits and 7 fit; above it, they do not
 pub size-fits : (count w : ℕ) → 0 < w → count ≤ 0xFFFFFFFFFFFFFFF8 / w → count * w + 7 < 2 ^ 64
@@ -52,31 +55,19 @@ pub range-end : (xs : List ℕ) (bound i : ℕ) → length xs ≤ i → inRange 
 unfolding inRange
 range-end xs bound i l = rw (drop-of-length-le xs l)
 
--- the first index above the bound: it stands at `place`, and no earlier one is above
-pub record FirstAbove (xs : List ℕ) (bound place : ℕ) : Type 0 where
-  pub inside : place < length xs
-  pub above : bound < getD xs place 0
-  pub earlier : (j : ℕ) → j < place → getD xs j 0 ≤ bound
-
--- an outcome that says of a list: no index is above the bound, or the first one that is, is refused
-abbrev pub Ranged : List ℕ → ℕ → Outcome Unit → Type 0
-Ranged xs bound o =
-    ((o ≡ completed tt) × ((i : ℕ) → getD xs i 0 ≤ bound))
-    ⊎ ((place : ℕ) × FirstAbove xs bound place × (o ≡ refused 11 (whole (getD xs place 0) ∷ whole bound ∷ [])))
-
 each-more : (x : ℕ) (xs : List ℕ) (bound n : ℕ) → x ≤ bound → ((j : ℕ) → j < n → getD xs j 0 ≤ bound) → (j : ℕ) → j < suc n → getD (x ∷ xs) j 0 ≤ bound
 each-more x xs bound n l h zero b = l
 each-more x xs bound n l h (suc j) b = h j (omega arith)
 
-passed : (x : ℕ) (xs : List ℕ) (bound : ℕ) (o : Outcome Unit) → x ≤ bound → Ranged xs bound o → Ranged (x ∷ xs) bound o
-passed x xs bound o l (inl h) = inl (h .0, λ i. each-more x xs bound i l (λ j b. h .1 j) i (omega arith))
-passed x xs bound o l (inr (place, first, e)) =
+range-more : (x : ℕ) (xs : List ℕ) (bound : ℕ) (o : Outcome Unit) → x ≤ bound → Ranged xs bound o → Ranged (x ∷ xs) bound o
+range-more x xs bound o l (inl h) = inl (h .0, λ i. each-more x xs bound i l (λ j b. h .1 j) i (omega arith))
+range-more x xs bound o l (inr (place, first, e)) =
     inr (suc place, record { inside = let h = first .inside in omega arith; above = first .above; earlier = each-more x xs bound place l (first .earlier) }, e)
 
 range-split : (x : ℕ) (xs : List ℕ) (bound : ℕ) (o : Outcome Unit) (t : Bool) → ltb bound x ≡ t → Ranged xs bound o
     → Ranged (x ∷ xs) bound (cond t (refused 11 (whole x ∷ whole bound ∷ [])) o)
 range-split x xs bound o true e r = inr (0, record { inside = omega arith; above = ltb-true bound x e; earlier = λ j b. omega arith }, refl)
-range-split x xs bound o false e r = passed x xs bound o (ltb-false bound x e) r
+range-split x xs bound o false e r = range-more x xs bound o (ltb-false bound x e) r
 
 -- what `inRange` means
 pub range-cases : (xs : List ℕ) (bound : ℕ) → Ranged xs bound (inRange xs bound)
@@ -86,10 +77,7 @@ range-cases (x ∷ xs) bound = range-split x xs bound (inRange xs bound) (ltb bo
 
 -- a list in range has no index above the bound
 pub range-all : (xs : List ℕ) (bound : ℕ) → inRange xs bound ≡ completed tt → (i : ℕ) → getD xs i 0 ≤ bound
-range-all xs bound e i = ⊎-elim (λ h. h .1 i) (λ h. let z : _≡_ {A = ℕ} 0 1 = cc (h .2) in absurd (zero-one z)) (range-cases xs bound)
-  where
-    zero-one : _≡_ {A = ℕ} 0 1 → ⊥
-    zero-one z = omega arith
+range-all xs bound e i = ⊎-elim (λ h. h .1 i) (λ h. absurd (never _ _ _ (sym (h .2) ∙ e))) (range-cases xs bound)
 
 -- what a size that is completed says
 pub record Fitting (count w size : ℕ) : Type 0 where
@@ -98,21 +86,14 @@ pub record Fitting (count w size : ℕ) : Type 0 where
   pub fits : count * w + 7 < 2 ^ 64
   pub is : size ≡ bytesFor (count * w)
 
-unlike : (n : ℕ) (values : List Value) (a : ℕ) → refused n values ≡ completed a → ⊥
-unlike n values a e = let z : _≡_ {A = ℕ} 0 1 = cc in omega arith
-
 pub size-completed : (count w size : ℕ) → packedSize count w ≡ completed size → Fitting count w size
 unfolding packedSize
-size-completed count w size e = go (leb 1 w) (leb w 32) (ltb (2 ^ 64 - 1) (count * w + 7)) refl refl refl e
-  where
-    go : (a b t : Bool) → leb 1 w ≡ a → leb w 32 ≡ b → ltb (2 ^ 64 - 1) (count * w + 7) ≡ t
-        → cond (not (a && b)) (refused 9 (whole 1 ∷ [])) (cond t (refused 5 []) (completed (bytesFor (count * w)))) ≡ completed size → Fitting count w size
-    go false b t p q r h = absurd (unlike 9 (whole 1 ∷ []) size h)
-    go true false t p q r h = absurd (unlike 9 (whole 1 ∷ []) size h)
-    go true true true p q r h = absurd (unlike 5 [] size h)
-    go true true false p q r h =
-        let passes = ltb-false (2 ^ 64 - 1) (count * w + 7) r in
-        record { wide = leb-true 1 w p; narrow = leb-true w 32 q; fits = omega arith; is = cc }
+size-completed count w size e =
+    let width = passed _ _ _ _ size e in
+    let bits = passed _ _ _ _ size (width .1) in
+    let within = both _ _ (not-false _ (width .0)) in
+    let few = ltb-false (2 ^ 64 - 1) (count * w + 7) (bits .0) in
+    record { wide = leb-true 1 w (within .0); narrow = leb-true w 32 (within .1); fits = omega arith; is = sym (completed-same _ _ (bits .1)) }
 
 -- the answer of packing, check by check
 pub pack-size : (xs : List ℕ) (w room n : ℕ) (values : List Value) → packedSize (length xs) w ≡ refused n values → packable xs w room ≡ refused n values

@@ -1,15 +1,11 @@
--- Laws of a stream's fields of bits, and of tabulated lists: fields add up, split and determine their bits. Assumes nothing.
-use Prim.Native.Nat.{ℕ, zero, suc, _+_, _*_, _/_, _%_, _^_, _<_, _≤_}
+-- Laws of a stream's fields of bits: they add up, split and determine their bits. Assumes nothing.
+use Prim.Native.Nat.{ℕ, zero, suc, _+_, _*_, _/_, _%_, _^_, _<_}
 use mathlib.Core.Path.{_≡_, refl, sym, ap, _∙_}
-use mathlib.Core.List.{List, [], _∷_, _++_, append-assoc, append-nil}
-use native.Mathlib.Nat.{add-suc, add-zero, add-assoc, add-comm, add-mul, mul-assoc, mul-comm, pow-suc, pow-zero, mod-one, zero-div, le-dest, suc-add, eq-or-lt-of-le, le-of-suc-le-suc, not-suc-le-zero, mul-le-mul-right}
+use native.Mathlib.Nat.{add-suc, add-zero, add-assoc, add-comm, add-mul, mul-assoc, mul-comm, pow-suc, pow-zero, mod-one, zero-div, le-dest, suc-add, mul-le-mul-right}
 use native.Mathlib.Numerals.{add-one}
 use native.Mathlib.Omega.{arith}
-use lib.ListN.{length, getD, drop, set, length-append, length-drop, drop-of-length-le, List·getD-append}
-use lib.Seq.{getD-at, ext-getD, drop-cons, set-at}
-use mathlib.Core.Logic.{⊎-elim}
 use lib.Pow.{pow-add, high, low, mod-pow-add, shr-shr}
-use Rattle.bitpack.specs.Layout.{bitOf, bits, field, listOf}
+use Rattle.bitpack.specs.Layout.{bitOf, bits, field}
 
 -- fields of n bits that agree bit by bit
 pub field-ext : (f g : ℕ → ℕ) (p q n : ℕ) → ((j : ℕ) → j < n → f (p + j) ≡ g (q + j)) → field f p n ≡ field g q n
@@ -34,7 +30,7 @@ field-add f p m (suc n) =
     rw (add-suc, field-add f p m n, ← add-assoc p m n, pow-add 2 m n, add-mul (field f (p + m) n), mul-assoc)
     (omega (arith, ap (λ (x : ℕ). f (p + m + n) * x) (mul-comm (2 ^ m) (2 ^ n))))
 
--- n bits are a number below 2^n
+-- the value of n bits is below 2^n
 pub field-lt : (f : ℕ → ℕ) (p n : ℕ) → ((j : ℕ) → f j < 2) → field f p n < 2 ^ n
 unfolding field bits
 field-lt f p zero b = omega arith
@@ -72,36 +68,3 @@ field-bitOf x k zero = rw pow-zero (sym (mod-one (x / 2 ^ k)))
 field-bitOf x k (suc n) =
     rw (field-bitOf x k n, ← add-one n, add-comm n 1, mod-pow-add (x / 2 ^ k) 1 n, shr-shr x k n)
     (add-comm _ _)
-
-pub length-tabulate : (f : ℕ → ℕ) (n : ℕ) → length (listOf f n) ≡ n
-unfolding listOf
-length-tabulate f zero = refl
-length-tabulate f (suc n) = rw (length-append, length-tabulate f n) (omega arith)
-
-pub getD-tabulate : (f : ℕ → ℕ) (n i : ℕ) → i < n → getD (listOf f n) i 0 ≡ f i
-unfolding listOf
-getD-tabulate f zero i l = absurd (not-suc-le-zero l)
-getD-tabulate f (suc n) i l =
-    ⊎-elim
-    (λ e. rw e (getD-at (listOf f n) (f n) [] 0 n (length-tabulate f n)))
-    (λ h. List·getD-append (listOf f n) (f n ∷ []) 0 i (rw length-tabulate h) ∙ getD-tabulate f n i h)
-    (eq-or-lt-of-le (le-of-suc-le-suc l))
-
-pub tabulate-is : (f : ℕ → ℕ) (xs : List ℕ) → ((i : ℕ) → i < length xs → f i ≡ getD xs i 0) → listOf f (length xs) ≡ xs
-tabulate-is f xs h =
-    ext-getD 0 (listOf f (length xs)) xs (length-tabulate f (length xs))
-    (λ i l. let l' : i < length xs = rw (length-tabulate f (length xs)) at l in getD-tabulate f (length xs) i l' ∙ h i l')
-
--- one element more is stored after those of the table, in a list that goes on as `old`
-pub put-next : (f : ℕ → ℕ) (old out : List ℕ) (i v : ℕ) → i < length old → out ≡ listOf f i ++ drop i old → v ≡ f i
-    → set out i v ≡ listOf f (i + 1) ++ drop (i + 1) old
-unfolding listOf
-put-next f old out i v l e h =
-    rw (add-one, e, drop-cons old i 0 l, h, append-assoc (listOf f i) (f i ∷ []) (drop (suc i) old))
-    (set-at (listOf f i) (getD old i 0) (drop (suc i) old) (f i) i (length-tabulate f i))
-
-pub length-begun : (f : ℕ → ℕ) (old : List ℕ) (i : ℕ) → i ≤ length old → length (listOf f i ++ drop i old) ≡ length old
-length-begun f old i l = rw (length-append, length-tabulate, length-drop) (omega arith)
-
-pub begun-whole : (f : ℕ → ℕ) (old : List ℕ) (n : ℕ) → length old ≤ n → listOf f n ++ drop n old ≡ listOf f n
-begun-whole f old n l = rw (drop-of-length-le old l) (append-nil (listOf f n))

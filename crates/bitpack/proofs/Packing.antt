@@ -1,4 +1,5 @@
--- Laws of the packed layout: what stands at a bit of a packing, that unpacking undoes packing, and that every byte string with no padding bit set is the packing of what it unpacks to. Assumes nothing.
+-- Laws of the packed layout: what stands at a bit of a packing, that unpacking undoes packing, and that every byte string
+-- with no padding bit set is the packing of what it unpacks to. Assumes nothing.
 use Prim.Native.Nat.{ℕ, _+_, _*_, _-_, _/_, _%_, _^_, _<_, _≤_}
 use mathlib.Core.Path.{_≡_, refl, sym, ap, _∙_}
 use mathlib.Core.Bool.{Bool, true, false, cond}
@@ -10,8 +11,9 @@ use lib.Arith.{digits-div, digits-mod, digits-lt}
 use lib.Dec.{ltb}
 use lib.Pow.{shr-lt}
 use borrow.Author.Tests.{lt-ltb, le-ltb, ltb-true, ltb-false}
+use Rattle.slices.proofs.TabulateLaw.{length-tabulate, getD-tabulate, tabulate-is}
 use Rattle.bitpack.specs.Layout.{bitOf, field, streamBit, byteOf, indexAt, unpackedIndices, paddingFrom, packedBit, packedBytes, bytesFor}
-use Rattle.bitpack.proofs.Fields.{field-ext, field-none, field-lt, bit-field, field-clear, field-bitOf, length-tabulate, getD-tabulate, tabulate-is}
+use Rattle.bitpack.proofs.Fields.{field-ext, field-none, bit-field, field-clear, field-bitOf}
 
 pub stream-binary : (bytes : List ℕ) (p : ℕ) → streamBit bytes p < 2
 unfolding streamBit
@@ -82,27 +84,16 @@ packed-index xs w i l h =
     ∙ rw div-one (mod-eq-of-lt h)
 
 pub length-packed : (xs : List ℕ) (w : ℕ) → length (packedBytes xs w) ≡ bytesFor (length xs * w)
-length-packed xs w = length-tabulate (byteOf (packedBit xs w)) (bytesFor (length xs * w))
+length-packed xs w = length-tabulate (bytesFor (length xs * w)) (byteOf (packedBit xs w))
 
 pub packed-byte : (xs : List ℕ) (w b : ℕ) → b < bytesFor (length xs * w) → getD (packedBytes xs w) b 0 ≡ byteOf (packedBit xs w) b
-packed-byte xs w b l = getD-tabulate (byteOf (packedBit xs w)) (bytesFor (length xs * w)) b l
-
--- every packed byte is one
-pub packed-small : (xs : List ℕ) (w b : ℕ) → b < bytesFor (length xs * w) → getD (packedBytes xs w) b 0 < 256
-packed-small xs w b l = rw (packed-byte xs w b l) (field-lt (packedBit xs w) (8 * b) 8 (packed-binary xs w))
+packed-byte xs w b l = getD-tabulate (bytesFor (length xs * w)) (byteOf (packedBit xs w)) b 0 l
 
 pub length-unpacked : (bytes : List ℕ) (count w : ℕ) → length (unpackedIndices bytes count w) ≡ count
-length-unpacked bytes count w = length-tabulate (indexAt bytes w) count
+length-unpacked bytes count w = length-tabulate count (indexAt bytes w)
 
 pub unpacked-index : (bytes : List ℕ) (count w i : ℕ) → i < count → getD (unpackedIndices bytes count w) i 0 ≡ indexAt bytes w i
-unpacked-index bytes count w i l = getD-tabulate (indexAt bytes w) count i l
-
--- every index of width w is below 2^w
-pub index-small : (bytes : List ℕ) (w i : ℕ) → indexAt bytes w i < 2 ^ w
-index-small bytes w i = field-lt (streamBit bytes) (i * w) w (stream-binary bytes)
-
-pub unpacked-small : (bytes : List ℕ) (count w i : ℕ) → i < count → getD (unpackedIndices bytes count w) i 0 < 2 ^ w
-unpacked-small bytes count w i l = rw (unpacked-index bytes count w i l) (index-small bytes w i)
+unpacked-index bytes count w i l = getD-tabulate count (indexAt bytes w) i 0 l
 
 -- the bits of the packed bytes are the packing's
 stream-packed : (xs : List ℕ) (w p : ℕ) → p < length xs * w → streamBit (packedBytes xs w) p ≡ packedBit xs w p
@@ -114,9 +105,10 @@ stream-packed xs w p l =
 -- unpacking undoes packing
 pub unpack-pack : (xs : List ℕ) (w : ℕ) → ((i : ℕ) → i < length xs → getD xs i 0 < 2 ^ w) → unpackedIndices (packedBytes xs w) (length xs) w ≡ xs
 unpack-pack xs w small =
-    tabulate-is (indexAt (packedBytes xs w) w) xs
-    (λ i l. field-ext (streamBit (packedBytes xs w)) (packedBit xs w) (i * w) (i * w) w (λ j h. stream-packed xs w (i * w + j) (digits-lt l h))
-    ∙ packed-index xs w i l (small i l))
+    sym
+    (tabulate-is 0 xs (indexAt (packedBytes xs w) w)
+    (λ i l. sym (field-ext (streamBit (packedBytes xs w)) (packedBit xs w) (i * w) (i * w) w (λ j h. stream-packed xs w (i * w + j) (digits-lt l h))
+    ∙ packed-index xs w i l (small i l))))
 
 -- the bits of what a byte string unpacks to, repacked, are the string's
 packed-stream : (bytes : List ℕ) (count w p : ℕ) → 0 < w → paddingFrom bytes (count * w) ≡ 0 → p < 8 * length bytes
@@ -138,7 +130,8 @@ pub pack-unpack : (bytes : List ℕ) (count w : ℕ) → 0 < w → ((i : ℕ) �
     → paddingFrom bytes (count * w) ≡ 0 → packedBytes (unpackedIndices bytes count w) w ≡ bytes
 pack-unpack bytes count w pos small len clear =
     rw (length-unpacked bytes count w, ← len)
-    (tabulate-is (byteOf (packedBit (unpackedIndices bytes count w) w)) bytes
-    (λ b l. field-ext (packedBit (unpackedIndices bytes count w) w) (streamBit bytes) (8 * b) (8 * b) 8
+    (sym
+    (tabulate-is 0 bytes (byteOf (packedBit (unpackedIndices bytes count w) w))
+    (λ b l. sym (field-ext (packedBit (unpackedIndices bytes count w) w) (streamBit bytes) (8 * b) (8 * b) 8
     (λ j h. packed-stream bytes count w (8 * b + j) pos clear (omega arith))
-    ∙ field-whole bytes b (small b l)))
+    ∙ field-whole bytes b (small b l)))))

@@ -1,18 +1,21 @@
--- The steps of a reader and of a writer: a byte is loaded, a field taken; a field is added, a byte put out. And what a step asks follows from where the reader or the writer stands. Assumes nothing.
+-- The steps of a reader and of a writer: a byte is loaded, a field taken; a field is added, a byte put out. And what a
+-- step asks follows from where the reader or the writer stands. Assumes nothing.
 use Prim.Native.Nat.{ℕ, suc, _+_, _*_, _-_, _/_, _%_, _^_, _<_, _≤_}
-use mathlib.Core.Path.{_≡_, sym, ap, _∙_}
-use mathlib.Core.List.{List, _++_}
+use mathlib.Core.Path.{_≡_, refl, sym, ap, _∙_}
+use mathlib.Core.List.{List}
 use native.Mathlib.Nat.{add-comm, mul-le-mul-right, suc-mul, one-mul}
 use native.Mathlib.Numerals.{add-one}
 use native.Mathlib.Omega.{arith}
-use lib.ListN.{length, getD, drop, set}
+use lib.ListN.{length, getD, set, length-append, length-drop}
 use lib.Pow.{pow-add, shl-exact}
 use lib.Bits.{bitAnd, and-mask}
-use Rattle.bitpack.specs.Layout.{field, listOf, streamBit, byteOf, bytesFor}
+use Rattle.slices.specs.Lists.{filled}
+use Rattle.slices.proofs.TabulateLaw.{length-tabulate, filled-with, filled-again}
+use Rattle.bitpack.specs.Layout.{field, streamBit, byteOf, bytesFor}
 use Rattle.bitpack.specs.Cursor.{Reading, ReaderAt, Pullable, Writing, WriterAt, Pushable, Finishable}
 use Rattle.bitpack.specs.declared.BitReader.{BitReader}
 use Rattle.bitpack.specs.declared.BitWriter.{BitWriter}
-use Rattle.bitpack.proofs.Fields.{field-zero, field-add, field-lt, field-mod, field-div, put-next, length-begun}
+use Rattle.bitpack.proofs.Fields.{field-zero, field-add, field-lt, field-mod, field-div}
 use Rattle.bitpack.proofs.Packing.{stream-binary, field-whole}
 
 -- the program's shifts lose nothing, and its mask is a remainder
@@ -25,7 +28,7 @@ power w l = shl-exact {a = 1} 1 w 64 (omega arith) (omega arith) ∙ one-mul (2 
 pub masked : (acc w : ℕ) → w ≤ 32 → bitAnd acc (1 * 2 ^ w % 18446744073709551616 - 1) ≡ acc % 2 ^ w
 masked acc w l = rw (power w l) (and-mask acc w)
 
--- bits above those held make a number below the next power
+-- bits above those held make a value below the next power
 pub load-small : (acc have b k : ℕ) → acc < 2 ^ have → b < 2 ^ k → acc + b * 2 ^ have < 2 ^ (have + k)
 load-small acc have b k small l =
     rw (add-comm have k, pow-add 2 k have) (omega (arith, mul-le-mul-right {m = suc b} {n = 2 ^ k} (2 ^ have) l, suc-mul b (2 ^ have)))
@@ -101,12 +104,29 @@ writing-put f p old out at acc have r l h =
       place = omega arith;
       held = rw (← next) (rw (r .held) (ap (λ (n : ℕ). field f (8 * at) n / 256) (sym e) ∙ field-div f (8 * at) 8 (have - 8) (r .binary)));
       within = omega arith;
-      done = put-next (byteOf f) old out at (acc % 256) h (r .done)
-          (rw (r .held) (ap (λ (n : ℕ). field f (8 * at) n % 256) (sym e) ∙ field-mod f (8 * at) 8 (have - 8) (r .binary)));
+      done = rw (r .done)
+          (filled-with at (at + 1) (byteOf f) old (acc % 256) h refl
+          (rw (r .held) (ap (λ (n : ℕ). field f (8 * at) n % 256) (sym e) ∙ field-mod f (8 * at) 8 (have - 8) (r .binary))));
     }
 
 pub writing-length : (f : ℕ → ℕ) (p : ℕ) (old out : List ℕ) (at acc have : ℕ) → Writing f p old out at acc have → length out ≡ length old
-writing-length f p old out at acc have r = rw (r .done) (length-begun (byteOf f) old at (r .within))
+writing-length f p old out at acc have r = rw (r .done, length-append, length-tabulate, length-drop) (omega (arith, r .within))
+
+-- a writer that stands over what was there before stands over what is there now
+pub stands-anew : {f : ℕ → ℕ} {p : ℕ} {old out : List ℕ} {writer : BitWriter} → WriterAt f p old out writer → WriterAt f p out out writer
+stands-anew {f} {p} {old} {out} {writer} w =
+    let v = w .writing in
+    let same = writing-length f p old out (writer .at) (writer .acc) (writer .have) v in
+    record {
+      few = w .few;
+      writing = record {
+        binary = v .binary;
+        place = v .place;
+        held = v .held;
+        within = omega (arith, v .within);
+        done = filled-again (writer .at) (byteOf f) old out (v .done);
+      };
+    }
 
 pub writing-small : (f : ℕ → ℕ) (p : ℕ) (old out : List ℕ) (at acc have : ℕ) → Writing f p old out at acc have → acc < 2 ^ have
 writing-small f p old out at acc have r = rw (r .held) (field-lt f (8 * at) have (r .binary))
@@ -138,18 +158,18 @@ finishable f p old out writer r room =
 
 -- the end of a stream that has no bit set from p on: nothing is held, or the last byte is what is held
 pub finish-whole : (f : ℕ → ℕ) (p : ℕ) (old out : List ℕ) (at acc : ℕ) → Writing f p old out at acc 0
-    → out ≡ listOf (byteOf f) (bytesFor p) ++ drop (bytesFor p) old
+    → out ≡ filled (bytesFor p) (byteOf f) old
 finish-whole f p old out at acc r =
     let place = r .place in
     let e : bytesFor p ≡ at = omega arith in
     rw e (r .done)
 
 pub finish-part : (f : ℕ → ℕ) (p : ℕ) (old out : List ℕ) (at acc have : ℕ) → Writing f p old out at acc have → 0 < have → have < 8 → at < length old
-    → ((j : ℕ) → p ≤ j → f j ≡ 0) → set out at acc ≡ listOf (byteOf f) (bytesFor p) ++ drop (bytesFor p) old
+    → ((j : ℕ) → p ≤ j → f j ≡ 0) → set out at acc ≡ filled (bytesFor p) (byteOf f) old
 finish-part f p old out at acc have r pos few h clear =
     let place = r .place in
     let e : bytesFor p ≡ at + 1 = omega arith in
     let n : have + (8 - have) ≡ 8 = omega arith in
     let none : field f (8 * at + have) (8 - have) ≡ 0 = field-zero f (8 * at + have) (8 - have) (λ j l. clear (8 * at + have + j) (omega arith)) in
     let whole : field f (8 * at) 8 ≡ field f (8 * at) have + field f (8 * at + have) (8 - have) * 2 ^ have = rw n at (field-add f (8 * at) have (8 - have)) in
-    rw e (put-next (byteOf f) old out at acc h (r .done) (r .held ∙ sym (rw none at whole ∙ omega arith)))
+    rw (e, r .done) (filled-with at (at + 1) (byteOf f) old acc h refl (r .held ∙ sym (rw none at whole ∙ omega arith)))

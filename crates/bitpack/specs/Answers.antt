@@ -1,4 +1,4 @@
--- What packing and unpacking answer, by the table's numbers and in document 01's order of checks, and what the lent buffer then holds. Definitions only.
+-- What packing and unpacking answer, by the table's numbers and in document 01's order of checks. Definitions only.
 use Prim.Native.Nat.{ℕ, _+_, _*_, _-_, _^_}
 use mathlib.Core.Bool.{cond, not, _&&_}
 use mathlib.Core.List.{List, [], _∷_}
@@ -18,7 +18,8 @@ sized (Bytes n) = completed n
 sized WidthUnfit = refused 9 (whole packedWidthSite ∷ [])
 sized TooLarge = refused 5 []
 
--- the bytes that count indices of width w take: 9 at site 1 for a width that is not 1 to 32, 5 for a number of bits that passes 2^64 - 1 when 7 is added, and so for one that passes it already
+-- the bytes that count indices of width w take: 9 at site 1 for a width that is not 1 to 32, 5 for a number of bits that
+-- passes 2^64 - 1 when 7 is added, and so for one that passes it already
 unfoldable pub packedSize : ℕ → ℕ → Outcome ℕ
 packedSize count w =
     cond (not (leb 1 w && leb w 32)) (refused 9 (whole packedWidthSite ∷ []))

@@ -1,12 +1,13 @@
 -- What a reader and a writer of a stream of bits hold at bit p of it, and what each step asks. Definitions only.
 use Prim.Native.Nat.{ℕ, _+_, _*_, _≤_, _<_, _^_}
-use mathlib.Core.List.{List, _++_}
+use mathlib.Core.List.{List}
 use mathlib.Core.Path.{_≡_}
-use lib.ListN.{length, drop}
+use lib.ListN.{length}
+use Rattle.slices.specs.Lists.{filled}
 use Rattle.bitpack.specs.declared.BitReader.{BitReader}
 use Rattle.bitpack.specs.declared.BitWriter.{BitWriter}
 use Rattle.bitpack.specs.declared.Pulled.{Pulled}
-use Rattle.bitpack.specs.Layout.{field, streamBit, byteOf, listOf}
+use Rattle.bitpack.specs.Layout.{field, streamBit, byteOf}
 
 -- `have` bits from p on are held, and `at` is the byte after them
 pub record Reading (bytes : List ℕ) (p at acc have : ℕ) : Type 0 where
@@ -25,18 +26,19 @@ pub record Pullable (bytes : List ℕ) (w : ℕ) (reader : BitReader) : Type 0 w
   pub narrow : w ≤ 32
   pub enough : 8 * reader .at + w ≤ 8 * length bytes + reader .have
 
--- what a pull of w bits at p gives: their number, and the reader after them
+-- what a pull of w bits at p gives: their value, and the reader after them
 pub record PulledAt (bytes : List ℕ) (p w : ℕ) (pulled : Pulled) : Type 0 where
   pub value : pulled .value ≡ field (streamBit bytes) p w
   pub next : ReaderAt bytes (p + w) (pulled .next)
 
--- of the first p bits of the stream f, those of the first `at` bytes are written, over `old`, and the other `have` are held
+-- of the first p bits of the stream f, those of the first `at` bytes are written, over `old`, and the other `have` are
+-- held
 pub record Writing (f : ℕ → ℕ) (p : ℕ) (old out : List ℕ) (at acc have : ℕ) : Type 0 where
   pub binary : (j : ℕ) → f j < 2
   pub place : p ≡ 8 * at + have
   pub held : acc ≡ field f (8 * at) have
   pub within : at ≤ length old
-  pub done : out ≡ listOf (byteOf f) at ++ drop at old
+  pub done : out ≡ filled at (byteOf f) old
 
 -- the writer stands at bit p: for indices of width w, at i * w before index i
 pub record WriterAt (f : ℕ → ℕ) (p : ℕ) (old out : List ℕ) (writer : BitWriter) : Type 0 where

@@ -1,27 +1,24 @@
--- The packed layout, on bits: bit p of a byte string is bit p % 8 of byte p / 8, and index i of width w is the w bits from i * w on, low bit first. Definitions only.
+-- The packed layout, on bits: bit p of a byte string is bit p % 8 of byte p / 8, and index i of width w is the w bits
+-- from i * w on, low bit first. Definitions only.
 use Prim.Native.Nat.{ℕ, zero, suc, _+_, _*_, _-_, _/_, _%_, _^_}
 use mathlib.Core.Bool.{cond}
-use mathlib.Core.List.{List, [], _∷_, _++_}
+use mathlib.Core.List.{List}
 use lib.ListN.{length, getD}
 use lib.Dec.{ltb}
+use Rattle.slices.specs.Lists.{tabulate}
 
 -- bit j of n
 abbrev pub bitOf : ℕ → ℕ → ℕ
 bitOf n j = n / 2 ^ j % 2
 
--- the number of n bits, whose bit j is f j
+-- the value of n bits, whose bit j is f j
 unfoldable pub bits : (ℕ → ℕ) → ℕ → ℕ
 bits f zero = 0
 bits f (suc n) = bits f n + f n * 2 ^ n
 
--- the number of the n bits of the stream f from bit p on
+-- the value of the n bits of the stream f from bit p on
 unfoldable pub field : (ℕ → ℕ) → ℕ → ℕ → ℕ
 field f p n = bits (λ j. f (p + j)) n
-
--- the list of n numbers whose element i is f i
-unfoldable pub listOf : (ℕ → ℕ) → ℕ → List ℕ
-listOf f zero = []
-listOf f (suc n) = listOf f n ++ (f n ∷ [])
 
 -- the bytes that n bits take
 abbrev pub bytesFor : ℕ → ℕ
@@ -41,9 +38,9 @@ indexAt bytes w i = field (streamBit bytes) (i * w) w
 
 -- the first count indices of width w in a byte string
 abbrev pub unpackedIndices : List ℕ → ℕ → ℕ → List ℕ
-unpackedIndices bytes count w = listOf (indexAt bytes w) count
+unpackedIndices bytes count w = tabulate count (indexAt bytes w)
 
--- the number of the bits of a byte string from bit n on: 0 if none of them is set
+-- the value of the bits of a byte string from bit n on: 0 if none of them is set
 abbrev pub paddingFrom : List ℕ → ℕ → ℕ
 paddingFrom bytes n = field (streamBit bytes) n (8 * length bytes - n)
 
@@ -53,4 +50,4 @@ packedBit indices w p = cond (ltb p (length indices * w)) (bitOf (getD indices (
 
 -- the bytes of the packing
 abbrev pub packedBytes : List ℕ → ℕ → List ℕ
-packedBytes indices w = listOf (byteOf (packedBit indices w)) (bytesFor (length indices * w))
+packedBytes indices w = tabulate (bytesFor (length indices * w)) (byteOf (packedBit indices w))

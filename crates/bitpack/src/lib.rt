@@ -1,10 +1,11 @@
 // Indices of a fixed width packed into bytes, low bit first, and read back.
 ghost use mathlib.Core.Path.{_≡_};
-ghost use mathlib.Core.List.{List, _++_};
+ghost use mathlib.Core.List.{List};
 ghost use Prim.Native.Nat.{ℕ, _+_, _*_, _-_, _^_, _≤_, _<_};
-ghost use lib.ListN.{length, drop, getD};
+ghost use lib.ListN.{length, getD};
 ghost use Rattle.error.specs.Numbers.{checked, ifCompleted};
-ghost use Rattle.bitpack.specs.Layout.{field, byteOf, listOf, bytesFor, packedBytes, unpackedIndices, paddingFrom};
+ghost use Rattle.slices.specs.Lists.{filled};
+ghost use Rattle.bitpack.specs.Layout.{field, byteOf, bytesFor, packedBytes, unpackedIndices, paddingFrom};
 ghost use Rattle.bitpack.specs.Answers.{sized, packedSize, scanned, inRange, packable, unpackable};
 ghost use Rattle.bitpack.specs.Cursor.{ReaderAt, Pullable, PulledAt, WriterAt, Pushable, Finishable};
 use error::Checked;
@@ -24,11 +25,12 @@ pub enum Scan {
     Offending(u32),
 }
 
-// A place in a packed byte string: `at` is the next byte to read, `acc` the `have` bits that were read and not yet handed out.
+// A place in a packed byte string, made only by `new` and `pull`: `at` is the next byte to read, `acc` the `have` bits
+// that were read and not yet handed out.
 pub struct BitReader {
-    pub at: usize,
-    pub acc: u64,
-    pub have: u64,
+    at: usize,
+    acc: u64,
+    have: u64,
 }
 
 // A value and the place after it.
@@ -37,11 +39,12 @@ pub struct Pulled {
     pub next: BitReader,
 }
 
-// A place in a byte string that is being packed: `at` is the next byte to write, `acc` the `have` bits that await it.
+// A place in a byte string that is being packed, made only by `new` and `push`: `at` is the next byte to write, `acc` the
+// `have` bits that await it.
 pub struct BitWriter {
-    pub at: usize,
-    pub acc: u64,
-    pub have: u64,
+    at: usize,
+    acc: u64,
+    have: u64,
 }
 
 impl BitReader {
@@ -99,7 +102,9 @@ impl BitWriter {
     // `value` as `width` bits, after what was pushed before. Public only for the codec.
     pub fn push(self, value: u32, width: u8, out: &mut [u8]) -> BitWriter
         requires { ⌜ Pushable (now out) value width self ⌝ }
-        ensures { λ r. ⌜ ((f : ℕ → ℕ) (p : ℕ) (old : List ℕ) → WriterAt f p old (now (out .entry)) self → value ≡ field f p width → WriterAt f (p + width) old (now (out .exit)) r) ⌝ }
+        ensures { λ r. ⌜ ((f : ℕ → ℕ) (p : ℕ) (old : List ℕ)
+            → WriterAt f p old (now (out .entry)) self → value ≡ field f p width
+            → WriterAt f (p + width) old (now (out .exit)) r) ⌝ }
     {
         let w = width as u64;
         let mut at = self.at;
@@ -119,7 +124,9 @@ impl BitWriter {
     // The last byte, if only a part of it was pushed. Public only for the codec.
     pub fn finish(self, out: &mut [u8])
         requires { ⌜ Finishable (now out) self ⌝ }
-        ensures { λ r. ⌜ ((f : ℕ → ℕ) (p : ℕ) (old : List ℕ) → WriterAt f p old (now (out .entry)) self → ((j : ℕ) → p ≤ j → f j ≡ 0) → now (out .exit) ≡ listOf (byteOf f) (bytesFor p) ++ drop (bytesFor p) old) ⌝ }
+        ensures { λ r. ⌜ ((f : ℕ → ℕ) (p : ℕ) (old : List ℕ)
+            → WriterAt f p old (now (out .entry)) self → ((j : ℕ) → p ≤ j → f j ≡ 0)
+            → now (out .exit) ≡ filled (bytesFor p) (byteOf f) old) ⌝ }
     {
         let at = self.at;
         if 0 < self.have {
@@ -164,7 +171,8 @@ fn first_above(indices: &[u32], bound: u32) -> Scan
 
 // The packing of indices that all fit, into a buffer of its length.
 fn write_indices(indices: &[u32], width: u8, output: &mut [u8])
-    requires { ⌜ (width ≤ 32) × ((i : ℕ) → getD (now indices) i 0 < 2 ^ width) × (length (now output) ≡ bytesFor (length (now indices) * width)) ⌝ }
+    requires { ⌜ (width ≤ 32) × ((i : ℕ) → getD (now indices) i 0 < 2 ^ width)
+        × (length (now output) ≡ bytesFor (length (now indices) * width)) ⌝ }
     ensures { λ r. ⌜ now (output .exit) ≡ packedBytes (now (indices .entry)) width ⌝ }
 {
     let mut writer = BitWriter::new();
@@ -178,8 +186,9 @@ fn write_indices(indices: &[u32], width: u8, output: &mut [u8])
 
 // The packing of the indices into the output, which has its length.
 pub fn pack_indices(indices: &[u32], width: u8, output: &mut [u8]) -> Checked
-    ensures { λ r. ⌜ checked r ≡ packable (now (indices .entry)) width (length (now (output .entry))) ⌝ }
-    ensures { λ r. ⌜ now (output .exit) ≡ ifCompleted (packable (now (indices .entry)) width (length (now (output .entry)))) (packedBytes (now (indices .entry)) width) (now (output .entry)) ⌝ }
+    ensures { λ r. ⌜ (let o = packable (now (indices .entry)) width (length (now (output .entry))) in
+        (checked r ≡ o)
+        × (now (output .exit) ≡ ifCompleted o (packedBytes (now (indices .entry)) width) (now (output .entry)))) ⌝ }
 {
     let size = packed_size(indices.len() as u64, width);
     match size {
@@ -205,7 +214,8 @@ pub fn pack_indices(indices: &[u32], width: u8, output: &mut [u8]) -> Checked
     }
 }
 
-// The number of the bits after the first `total`, in a byte string of the length that these take. Public only for the codec.
+// The value of the bits after the first `total`, in a byte string of the length that these take. Public only for the
+// codec.
 pub fn padding(bytes: &[u8], total: u64) -> u64
     requires { ⌜ length (now bytes) ≡ bytesFor total ⌝ }
     ensures { λ r. ⌜ r ≡ paddingFrom (now (bytes .entry)) total ⌝ }
@@ -233,10 +243,13 @@ fn read_indices(bytes: &[u8], width: u8, output: &mut [u32])
     }
 }
 
-// The `count` indices of a packing into the output, which has room for just these. A packing with a padding bit set is refused.
+// The `count` indices of a packing into the output, which has room for just these. A packing with a padding bit set is
+// refused.
 pub fn unpack_indices(bytes: &[u8], count: u64, width: u8, output: &mut [u32]) -> Checked
-    ensures { λ r. ⌜ checked r ≡ unpackable (now (bytes .entry)) count width (length (now (output .entry))) ⌝ }
-    ensures { λ r. ⌜ now (output .exit) ≡ ifCompleted (unpackable (now (bytes .entry)) count width (length (now (output .entry)))) (unpackedIndices (now (bytes .entry)) count width) (now (output .entry)) ⌝ }
+    ensures { λ r. ⌜ (let o = unpackable (now (bytes .entry)) count width (length (now (output .entry))) in
+        (checked r ≡ o)
+        × (now (output .exit)
+        ≡ ifCompleted o (unpackedIndices (now (bytes .entry)) count width) (now (output .entry)))) ⌝ }
 {
     let size = packed_size(count, width);
     match size {

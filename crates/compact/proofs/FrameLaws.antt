@@ -1,16 +1,18 @@
--- Laws of the frame: little-endian numbers there and back, the lengths, which answer parsing gives, and that parsing and writing undo each other.
--- Assumes nothing.
+-- Laws of the frame: little-endian numbers there and back, the lengths, which answer parsing gives, and that parsing and
+-- writing undo each other. Assumes nothing.
 use mathlib.Core.Path.{_≡_, refl, sym, ap, _∙_, subst}
-use mathlib.Core.Bool.{Bool, true, false, cond, _&&_}
+use mathlib.Core.Bool.{true, false}
 use mathlib.Core.List.{List, [], _∷_, _++_}
 use Prim.Native.Nat.{ℕ, zero, suc, _+_, _*_, _-_, _/_, _%_, _^_, _≤_, _<_}
-use native.Mathlib.Nat.{div-add-mod, pow-suc}
+use native.Mathlib.Nat.{div-add-mod}
 use native.Mathlib.Omega.{arith}
 use lib.ListN.{length, getD, take, drop, length-append, length-drop, take-append-drop}
 use lib.Seq.{drop-cons, drop-at, take-append-seam, length-take-le, take-add, getD-take, getD-drop}
 use borrow.Author.Tests.{ltb-false, eqb-true, not-false, lt-ltb, le-ltb, eq-eqb, ne-eqb}
-use Rattle.error.specs.Numbers.{Outcome, completed, refused, Value, whole}
-use Rattle.compact.specs.Frame.{bytesOf, numberOf, header, frameOf, packedLength, Parts, magicIn, countIn, normLengthIn, partsWith, parsed}
+use Rattle.error.specs.Numbers.{completed, refused, whole}
+use Rattle.error.proofs.Outcomes.{both, completed-same, passed}
+use Rattle.bitpack.specs.Layout.{bytesFor}
+use Rattle.compact.specs.Frame.{bytesOf, numberOf, header, frameOf, Parts, magicIn, countIn, normLengthIn, partsIn, parsed, WellFormed}
 
 -- ---- numbers, lowest byte first
 
@@ -36,13 +38,6 @@ bytes-of-number (b ∷ bs) h =
     let hb : b < 256 = h 0 (omega arith) in
     rw (low b (numberOf bs) hb, rest b (numberOf bs) hb, bytes-of-number bs (λ i l. h (suc i) (omega arith)))
 
-pub number-below : (bs : List ℕ) → Bytes bs → numberOf bs < 256 ^ length bs
-unfolding numberOf
-number-below [] h = omega arith
-number-below (b ∷ bs) h =
-    let hb : b < 256 = h 0 (omega arith) in
-    omega (arith, number-below bs (λ i l. h (suc i) (omega arith)), pow-suc 256 (length bs))
-
 -- ---- the fields of a header, byte by byte
 
 part-bytes : (bs : List ℕ) (at n : ℕ) → Bytes bs → at + n ≤ length bs → (length (take n (drop at bs)) ≡ n) × Bytes (take n (drop at bs))
@@ -50,16 +45,11 @@ part-bytes bs at n h room =
     let e : length (take n (drop at bs)) ≡ n = length-take-le n (drop at bs) (omega (arith, length-drop at bs)) in
     (e, λ i l. rw (getD-take n (drop at bs) i 0 (omega arith), getD-drop at bs i 0) (h (at + i) (omega arith)))
 
--- n bytes of a list, from their number, and how large that is
+-- n bytes of a list, from their number
 field : (bs : List ℕ) (at n : ℕ) → Bytes bs → at + n ≤ length bs → bytesOf n (numberOf (take n (drop at bs))) ≡ take n (drop at bs)
 field bs at n h room =
     let b = part-bytes bs at n h room in
     subst (λ (m : ℕ). bytesOf m (numberOf (take n (drop at bs))) ≡ take n (drop at bs)) (b .0) (bytes-of-number (take n (drop at bs)) (b .1))
-
-field-below : (bs : List ℕ) (at n : ℕ) → Bytes bs → at + n ≤ length bs → numberOf (take n (drop at bs)) < 256 ^ n
-field-below bs at n h room =
-    let b = part-bytes bs at n h room in
-    subst (λ (m : ℕ). numberOf (take n (drop at bs)) < 256 ^ m) (b .0) (number-below (take n (drop at bs)) (b .1))
 
 pub count-bytes : (bs : List ℕ) → 11 ≤ length bs → take 4 (drop 5 bs) ≡ getD bs 5 0 ∷ getD bs 6 0 ∷ getD bs 7 0 ∷ getD bs 8 0 ∷ []
 count-bytes bs h = rw (drop-cons bs 5 0 (omega arith), drop-cons bs 6 0 (omega arith), drop-cons bs 7 0 (omega arith), drop-cons bs 8 0 (omega arith))
@@ -68,18 +58,6 @@ pub norm-length-bytes : (bs : List ℕ) → 11 ≤ length bs → take 2 (drop 9 
 norm-length-bytes bs h = rw (drop-cons bs 9 0 (omega arith), drop-cons bs 10 0 (omega arith))
 
 -- ---- the answers of parsing
-
--- what the tests ask of a frame
-pub record WellFormed (bs : List ℕ) : Type 0 where
-  pub long : 11 ≤ length bs
-  pub magic : magicIn bs ≡ true
-  pub version : getD bs 3 0 ≡ 1
-  pub norm-within : 11 + normLengthIn bs ≤ length bs
-  pub sized : length bs - (11 + normLengthIn bs) ≡ packedLength (getD bs 4 0) (countIn bs)
-
--- its parts, where it is well formed
-abbrev pub partsIn : List ℕ → Parts
-partsIn bs = partsWith bs (getD bs 4 0) (countIn bs) (normLengthIn bs)
 
 module _ (bs : List ℕ) where
   pub parsed-short : length bs < 11 → parsed bs ≡ refused 8 (whole 1 ∷ [])
@@ -99,10 +77,10 @@ module _ (bs : List ℕ) where
   parsed-norm h m v n = rw (le-ltb (length bs) 11 h, m, v, lt-ltb (length bs) (11 + normLengthIn bs) n)
 
   pub parsed-length : 11 ≤ length bs → magicIn bs ≡ true → getD bs 3 0 ≡ 1 → 11 + normLengthIn bs ≤ length bs
-      → (length bs - (11 + normLengthIn bs) ≡ packedLength (getD bs 4 0) (countIn bs) → ⊥) → parsed bs ≡ refused 8 (whole 5 ∷ [])
+      → (length bs - (11 + normLengthIn bs) ≡ bytesFor (countIn bs * getD bs 4 0) → ⊥) → parsed bs ≡ refused 8 (whole 5 ∷ [])
   unfolding parsed
   parsed-length h m v n s =
-      rw (le-ltb (length bs) 11 h, m, v, le-ltb (length bs) (11 + normLengthIn bs) n, ne-eqb (length bs - (11 + normLengthIn bs)) (packedLength (getD bs 4 0) (countIn bs)) s)
+      rw (le-ltb (length bs) 11 h, m, v, le-ltb (length bs) (11 + normLengthIn bs) n, ne-eqb (length bs - (11 + normLengthIn bs)) (bytesFor (countIn bs * getD bs 4 0)) s)
 
   pub parsed-whole : WellFormed bs → parsed bs ≡ completed (partsIn bs)
   unfolding parsed
@@ -112,13 +90,8 @@ module _ (bs : List ℕ) where
         w .magic,
         w .version,
         le-ltb (length bs) (11 + normLengthIn bs) (w .norm-within),
-        eq-eqb (length bs - (11 + normLengthIn bs)) (packedLength (getD bs 4 0) (countIn bs)) (w .sized),
+        eq-eqb (length bs - (11 + normLengthIn bs)) (bytesFor (countIn bs * getD bs 4 0)) (w .sized),
       )
-
--- a test that is passed
-passed : {A : Type 0} (t : Bool) (n : ℕ) (vs : List Value) (rest : Outcome A) (p : A) → cond t (refused n vs) rest ≡ completed p → (t ≡ false) × (rest ≡ completed p)
-passed true n vs rest p e = let z : _≡_ {A = ℕ} 0 1 = cc in absurd (omega arith)
-passed false n vs rest p e = (refl, e)
 
 pub parsed-inverse : (bs : List ℕ) (p : Parts) → parsed bs ≡ completed p → WellFormed bs × (p ≡ partsIn bs)
 unfolding parsed
@@ -127,8 +100,7 @@ parsed-inverse bs p e =
     let s2 = passed _ _ _ _ p (s1 .1) in
     let s3 = passed _ _ _ _ p (s2 .1) in
     let s4 = passed _ _ _ _ p (s3 .1) in
-    let s5 = passed _ _ _ _ p (s4 .1) in
-    let same : completed (partsIn bs) ≡ completed p = s5 .1 in (
+    let s5 = passed _ _ _ _ p (s4 .1) in (
       record {
         long = ltb-false _ _ (s1 .0);
         magic = not-false _ (s2 .0);
@@ -136,7 +108,7 @@ parsed-inverse bs p e =
         norm-within = ltb-false _ _ (s4 .0);
         sized = eqb-true _ _ (not-false _ (s5 .0));
       },
-      cc,
+      sym (completed-same _ _ (s5 .1)),
     )
 
 -- ---- lengths
@@ -152,28 +124,11 @@ length-frame width count norm indices = rw (length-append, length-append, length
 pub length-norm : (bs : List ℕ) → WellFormed bs → length (take (normLengthIn bs) (drop 11 bs)) ≡ normLengthIn bs
 length-norm bs w = length-take-le (normLengthIn bs) (drop 11 bs) (omega (arith, w .norm-within, length-drop 11 bs))
 
--- what parses is as long as its parts, and its indices as their number and width ask
-pub length-parts : (bs : List ℕ) (p : Parts) → parsed bs ≡ completed p → length bs ≡ 11 + length (p .norm) + length (p .indices)
-length-parts bs p e =
-    let w = parsed-inverse bs p e in
-    rw (w .1, length-norm bs (w .0), length-drop (11 + normLengthIn bs) bs)
-    (omega (arith, w .0 .norm-within))
-
-pub length-indices : (bs : List ℕ) (p : Parts) → parsed bs ≡ completed p → length (p .indices) ≡ packedLength (p .width) (p .count)
+-- the indices of what parses are as long as their count and width ask
+pub length-indices : (bs : List ℕ) (p : Parts) → parsed bs ≡ completed p → length (p .indices) ≡ bytesFor (p .count * p .width)
 length-indices bs p e =
     let w = parsed-inverse bs p e in
     rw (w .1) (length-drop (11 + normLengthIn bs) bs ∙ w .0 .sized)
-
--- the numbers of a header fit their bytes
-pub count-fits : (bs : List ℕ) (p : Parts) → Bytes bs → parsed bs ≡ completed p → p .count < 2 ^ 32
-count-fits bs p h e =
-    let w = parsed-inverse bs p e in
-    rw (w .1) (field-below bs 5 4 h (omega (arith, w .0 .long)))
-
-pub norm-fits : (bs : List ℕ) (p : Parts) → Bytes bs → parsed bs ≡ completed p → length (p .norm) ≤ 65535
-norm-fits bs p h e =
-    let w = parsed-inverse bs p e in
-    rw (w .1, length-norm bs (w .0)) (omega (arith, field-below bs 9 2 h (omega (arith, w .0 .long))))
 
 -- ---- parsing and writing undo each other
 
@@ -206,7 +161,7 @@ module _ (width count : ℕ) (norm indices : List ℕ) (small-count : count < 2 
   unfolding frameOf header bytesOf
   width-in = refl
 
-  well-formed : length indices ≡ packedLength width count → WellFormed (frameOf width count norm indices)
+  well-formed : length indices ≡ bytesFor (count * width) → WellFormed (frameOf width count norm indices)
   well-formed e = record {
     long = omega (arith, length-frame width count norm indices);
     magic = magic-in;
@@ -219,14 +174,9 @@ module _ (width count : ℕ) (norm indices : List ℕ) (small-count : count < 2 
       left a b = omega arith
 
   -- parsing what was written gives it back
-  pub parse-written : length indices ≡ packedLength width count
+  pub parse-written : length indices ≡ bytesFor (count * width)
       → parsed (frameOf width count norm indices) ≡ completed (record { width = width; count = count; norm = norm; indices = indices })
   parse-written e = parsed-whole (frameOf width count norm indices) (well-formed e) ∙ rw (norm-length-in, width-in, count-in, norm-in, indices-in)
-
--- both of two tests that hold together
-both : (a b : Bool) → (a && b) ≡ true → (a ≡ true) × (b ≡ true)
-both true b e = (refl, e)
-both false b e = let z : _≡_ {A = ℕ} 0 1 = cc in absurd (omega arith)
 
 -- the bytes before the count
 first-five : (bs : List ℕ) → 11 ≤ length bs → take 5 bs ≡ getD bs 0 0 ∷ getD bs 1 0 ∷ getD bs 2 0 ∷ getD bs 3 0 ∷ getD bs 4 0 ∷ []

@@ -2,10 +2,12 @@
 // specs/Frame.antt has the layout.
 ghost use mathlib.Core.Path.{_≡_};
 ghost use mathlib.Core.List.{_++_};
-ghost use Prim.Native.Nat.{_+_, _≤_, _<_};
+ghost use Prim.Native.Nat.{_+_, _*_, _≤_, _<_};
 ghost use lib.ListN.{length, take, drop};
 ghost use Rattle.error.specs.Numbers.{checked, ifCompleted};
-ghost use Rattle.compact.specs.Frame.{header, frameOf, packedLength, magicIn, countIn, normLengthIn, parsed, writing, outcomeOf, Within};
+ghost use Rattle.bitpack.specs.Layout.{bytesFor};
+ghost use Rattle.compact.specs.Frame.{header, frameOf, magicIn, countIn, normLengthIn};
+ghost use Rattle.compact.specs.Frame.{parsed, writing, outcomeOf, Within};
 use error::Checked;
 use error::Refusal;
 use error::names;
@@ -28,7 +30,10 @@ pub enum Parsed {
 // Copies part into output from the place at on. Public only for the encoder's crate.
 pub fn write_part(part: &[u8], output: &mut [u8], at: usize)
     requires { ⌜ at + length (now part) ≤ length (now output) ⌝ }
-    ensures { λ r. ⌜ now (output .exit) ≡ take at (now (output .entry)) ++ now (part .entry) ++ drop (at + length (now (part .entry))) (now (output .entry)) ⌝ }
+    ensures { λ r. ⌜ now (output .exit)
+        ≡ take at (now (output .entry))
+        ++ now (part .entry)
+        ++ drop (at + length (now (part .entry))) (now (output .entry)) ⌝ }
 {
     let mut i = 0;
     while i < part.len() {
@@ -69,8 +74,10 @@ pub fn write_compact(
     indices: &[u8],
     output: &mut [u8],
 ) -> Checked
-    ensures { λ r. ⌜ checked r ≡ writing (now (norm .entry)) (now (indices .entry)) (now (output .entry)) ⌝ }
-    ensures { λ r. ⌜ now (output .exit) ≡ ifCompleted (writing (now (norm .entry)) (now (indices .entry)) (now (output .entry))) (frameOf width count (now (norm .entry)) (now (indices .entry))) (now (output .entry)) ⌝ }
+    ensures { λ r. ⌜ (let o = writing (now (norm .entry)) (now (indices .entry)) (now (output .entry)) in
+        (checked r ≡ o)
+        × (now (output .exit)
+        ≡ ifCompleted o (frameOf width count (now (norm .entry)) (now (indices .entry))) (now (output .entry)))) ⌝ }
 {
     let norm_len = norm.len();
     if 65535 < norm_len {
@@ -123,7 +130,7 @@ fn read_norm_len(bytes: &[u8]) -> u16
 
 // The bytes that count indices of width bits take.
 fn packed_length(width: u8, count: u32) -> usize
-    ensures { λ r. ⌜ r ≡ packedLength width count ⌝ }
+    ensures { λ r. ⌜ r ≡ bytesFor (count * width) ⌝ }
 {
     ((count as usize) * (width as usize) + 7) / 8
 }

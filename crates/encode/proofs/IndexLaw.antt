@@ -1,17 +1,16 @@
--- The indices of the blocks, pushed one after another: what each push asks, and where the writer stands after it. Assumes nothing.
+-- The indices of the blocks, pushed one after another: what each push asks, and where the writer stands after it.
+-- Assumes nothing.
 use mathlib.Core.Path.{_≡_, sym, _∙_}
 use Prim.Native.Nat.{ℕ, _+_, _*_, _^_, _<_}
 use native.Mathlib.Omega.{arith}
 use mathlib.Core.List.{List}
-use lib.ListN.{length, drop}
-use lib.Seq.{drop-at}
+use lib.ListN.{length}
 use lib.Ieee.{Float}
 use Rattle.bitpack.specs.declared.BitWriter.{BitWriter}
-use Rattle.bitpack.specs.Layout.{field, packedBit, byteOf, listOf}
+use Rattle.bitpack.specs.Layout.{field, packedBit}
 use Rattle.bitpack.specs.Cursor.{WriterAt, Pushable}
-use Rattle.bitpack.proofs.Fields.{length-tabulate}
 use Rattle.bitpack.proofs.Packing.{packed-index}
-use Rattle.bitpack.proofs.Steps.{pushable, writing-length, next-place, next-within}
+use Rattle.bitpack.proofs.Steps.{pushable, next-place, next-within}
 use Rattle.lloyd_search.specs.Distance.{rowOf, distance}
 use Rattle.lloyd_search.proofs.NearestLaw.{index-below}
 use Rattle.encode.specs.Encode.{indexFor, indicesFor}
@@ -47,19 +46,3 @@ module _ {count k n width bytes : ℕ} (codewords xs : List Float) (s : Searchab
     pub index-pushed : {old out out' : List ℕ} {writer writer' : BitWriter} (j : ℕ) → j ≡ i + 1 → WriterAt (packing count k n width codewords xs) (i * width) old out writer → Pushes index width out writer out' writer'
         → WriterAt (packing count k n width codewords xs) (j * width) old out' writer'
     index-pushed {old} j e w p = rw (e, next-place i width) (p (packing count k n width codewords xs) (i * width) old w placed)
-
--- a writer that stands over what was there before stands over what is there now
-pub stands-anew : {f : ℕ → ℕ} {p : ℕ} {old out : List ℕ} {writer : BitWriter} → WriterAt f p old out writer → WriterAt f p out out writer
-stands-anew {f} {p} {old} {out} {writer} w =
-    let v = w .writing in
-    let e = writing-length f p old out (writer .at) (writer .acc) (writer .have) v in
-    record {
-      few = w .few;
-      writing = record {
-        binary = v .binary;
-        place = v .place;
-        held = v .held;
-        within = omega (arith, v .within);
-        done = rw (v .done, drop-at (listOf (byteOf f) (writer .at)) (drop (writer .at) old) (writer .at) (length-tabulate (byteOf f) (writer .at)));
-      };
-    }

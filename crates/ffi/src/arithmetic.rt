@@ -21,7 +21,8 @@ fn bits_of(x: f32) -> u32
 // x at binary32, its bits in whole[0].
 #[no_mangle]
 pub extern "C" fn fib_f64_to_f32(x: f64, whole: &mut [u64; 4], real: &mut [f64; 2]) -> u32
-    ensures { λ r. ⌜ found r (now (whole .exit)) (now (real .exit)) ≡ crossed oneWhole (completed (toBits binary32 (narrowTo binary32 x))) ⌝ }
+    ensures { λ r. ⌜ found r (now (whole .exit)) (now (real .exit))
+        ≡ crossed oneWhole (completed (toBits binary32 (narrowTo binary32 x))) ⌝ }
 {
     let bits = bits_of(narrow::f64_to_f32(x));
     put(0, [bits as u64, 0, 0, 0], [0.0, 0.0], whole, real)
@@ -39,7 +40,8 @@ pub extern "C" fn fib_f32_to_f16(x: f32, whole: &mut [u64; 4], real: &mut [f64; 
 // The value of a binary16 pattern, its binary32 bits in whole[0].
 #[no_mangle]
 pub extern "C" fn fib_f16_to_f32(bits: u16, whole: &mut [u64; 4], real: &mut [f64; 2]) -> u32
-    ensures { λ r. ⌜ found r (now (whole .exit)) (now (real .exit)) ≡ crossed oneWhole (completed (toBits binary32 (unpacked 11 15 bits))) ⌝ }
+    ensures { λ r. ⌜ found r (now (whole .exit)) (now (real .exit))
+        ≡ crossed oneWhole (completed (toBits binary32 (unpacked 11 15 bits))) ⌝ }
 {
     let wide = bits_of(narrow::f16_bits_to_f32(bits));
     put(0, [wide as u64, 0, 0, 0], [0.0, 0.0], whole, real)
@@ -48,7 +50,8 @@ pub extern "C" fn fib_f16_to_f32(bits: u16, whole: &mut [u64; 4], real: &mut [f6
 // The root in real[0].
 #[no_mangle]
 pub extern "C" fn fib_sqrt(x: f64, whole: &mut [u64; 4], real: &mut [f64; 2]) -> u32
-    ensures { λ r. ⌜ found r (now (whole .exit)) (now (real .exit)) ≡ crossed oneReal (completed (sqrtOf binary64 x)) ⌝ }
+    ensures { λ r. ⌜ found r (now (whole .exit)) (now (real .exit))
+        ≡ crossed oneReal (completed (sqrtOf binary64 x)) ⌝ }
 {
     let root = root::sqrt(x);
     put(0, [0, 0, 0, 0], [root, 0.0], whole, real)

@@ -20,8 +20,10 @@ pub extern "C" fn fib_write_frame(
     whole: &mut [u64; 4],
     real: &mut [f64; 2],
 ) -> u32
-    ensures { λ r. ⌜ found r (now (whole .exit)) (now (real .exit)) ≡ crossed none (writing (now (norm .entry)) (now (indices .entry)) (now (output .entry))) ⌝ }
-    ensures { λ r. ⌜ now (output .exit) ≡ ifCompleted (writing (now (norm .entry)) (now (indices .entry)) (now (output .entry))) (frameOf width count (now (norm .entry)) (now (indices .entry))) (now (output .entry)) ⌝ }
+    ensures { λ r. ⌜ (let o = writing (now (norm .entry)) (now (indices .entry)) (now (output .entry)) in
+        (found r (now (whole .exit)) (now (real .exit)) ≡ crossed none o)
+        × (now (output .exit)
+        ≡ ifCompleted o (frameOf width count (now (norm .entry)) (now (indices .entry))) (now (output .entry)))) ⌝ }
 {
     let written = compact::write_compact(width, count, norm, indices, output);
     put_checked(written, whole, real)
@@ -30,7 +32,8 @@ pub extern "C" fn fib_write_frame(
 // Width, count, and the lengths of norm and indices in `whole`.
 #[no_mangle]
 pub extern "C" fn fib_parse_frame(bytes: &[u8], whole: &mut [u64; 4], real: &mut [f64; 2]) -> u32
-    ensures { λ r. ⌜ found r (now (whole .exit)) (now (real .exit)) ≡ crossed lengthsIn (parsed (now (bytes .entry))) ⌝ }
+    ensures { λ r. ⌜ found r (now (whole .exit)) (now (real .exit))
+        ≡ crossed lengthsIn (parsed (now (bytes .entry))) ⌝ }
 {
     let answer = compact::parse_compact(bytes);
     match answer {

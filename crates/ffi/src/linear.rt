@@ -20,8 +20,11 @@ pub extern "C" fn fib_apply(
     whole: &mut [u64; 4],
     real: &mut [f64; 2],
 ) -> u32
-    ensures { λ r. ⌜ found r (now (whole .exit)) (now (real .exit)) ≡ crossed none (shape dim (length (now (matrix .entry))) (length (now (input .entry))) (length (now (output .entry)))) ⌝ }
-    ensures { λ r. ⌜ now (output .exit) ≡ ifCompleted (shape dim (length (now (matrix .entry))) (length (now (input .entry))) (length (now (output .entry)))) (applied dim (now (matrix .entry)) (now (input .entry))) (now (output .entry)) ⌝ }
+    ensures { λ r. ⌜ (let o =
+        shape dim (length (now (matrix .entry))) (length (now (input .entry))) (length (now (output .entry))) in
+        (found r (now (whole .exit)) (now (real .exit)) ≡ crossed none o)
+        × (now (output .exit)
+        ≡ ifCompleted o (applied dim (now (matrix .entry)) (now (input .entry))) (now (output .entry)))) ⌝ }
 {
     let answer = rotation::apply(dim, matrix, input, output);
     put_checked(answer, whole, real)
@@ -37,8 +40,11 @@ pub extern "C" fn fib_apply_inverse(
     whole: &mut [u64; 4],
     real: &mut [f64; 2],
 ) -> u32
-    ensures { λ r. ⌜ found r (now (whole .exit)) (now (real .exit)) ≡ crossed none (shape dim (length (now (matrix .entry))) (length (now (input .entry))) (length (now (output .entry)))) ⌝ }
-    ensures { λ r. ⌜ now (output .exit) ≡ ifCompleted (shape dim (length (now (matrix .entry))) (length (now (input .entry))) (length (now (output .entry)))) (appliedInverse dim (now (matrix .entry)) (now (input .entry))) (now (output .entry)) ⌝ }
+    ensures { λ r. ⌜ (let o =
+        shape dim (length (now (matrix .entry))) (length (now (input .entry))) (length (now (output .entry))) in
+        (found r (now (whole .exit)) (now (real .exit)) ≡ crossed none o)
+        × (now (output .exit)
+        ≡ ifCompleted o (appliedInverse dim (now (matrix .entry)) (now (input .entry))) (now (output .entry)))) ⌝ }
 {
     let answer = rotation::apply_inverse(dim, matrix, input, output);
     put_checked(answer, whole, real)
@@ -52,7 +58,8 @@ pub extern "C" fn fib_mse(
     whole: &mut [u64; 4],
     real: &mut [f64; 2],
 ) -> u32
-    ensures { λ r. ⌜ found r (now (whole .exit)) (now (real .exit)) ≡ crossed oneReal (mseOutcome (now (left .entry)) (now (right .entry))) ⌝ }
+    ensures { λ r. ⌜ found r (now (whole .exit)) (now (real .exit))
+        ≡ crossed oneReal (mseOutcome (now (left .entry)) (now (right .entry))) ⌝ }
 {
     let answer = metrics::mse(left, right);
     match answer {

@@ -16,8 +16,9 @@ pub extern "C" fn fib_pack_indices(
     whole: &mut [u64; 4],
     real: &mut [f64; 2],
 ) -> u32
-    ensures { λ r. ⌜ found r (now (whole .exit)) (now (real .exit)) ≡ crossed none (packable (now (indices .entry)) width (length (now (output .entry)))) ⌝ }
-    ensures { λ r. ⌜ now (output .exit) ≡ ifCompleted (packable (now (indices .entry)) width (length (now (output .entry)))) (packedBytes (now (indices .entry)) width) (now (output .entry)) ⌝ }
+    ensures { λ r. ⌜ (let o = packable (now (indices .entry)) width (length (now (output .entry))) in
+        (found r (now (whole .exit)) (now (real .exit)) ≡ crossed none o)
+        × (now (output .exit) ≡ ifCompleted o (packedBytes (now (indices .entry)) width) (now (output .entry)))) ⌝ }
 {
     let packed = bitpack::pack_indices(indices, width, output);
     put_checked(packed, whole, real)
@@ -33,8 +34,10 @@ pub extern "C" fn fib_unpack_indices(
     whole: &mut [u64; 4],
     real: &mut [f64; 2],
 ) -> u32
-    ensures { λ r. ⌜ found r (now (whole .exit)) (now (real .exit)) ≡ crossed none (unpackable (now (bytes .entry)) count width (length (now (output .entry)))) ⌝ }
-    ensures { λ r. ⌜ now (output .exit) ≡ ifCompleted (unpackable (now (bytes .entry)) count width (length (now (output .entry)))) (unpackedIndices (now (bytes .entry)) count width) (now (output .entry)) ⌝ }
+    ensures { λ r. ⌜ (let o = unpackable (now (bytes .entry)) count width (length (now (output .entry))) in
+        (found r (now (whole .exit)) (now (real .exit)) ≡ crossed none o)
+        × (now (output .exit)
+        ≡ ifCompleted o (unpackedIndices (now (bytes .entry)) count width) (now (output .entry)))) ⌝ }
 {
     let unpacked = bitpack::unpack_indices(bytes, count, width, output);
     put_checked(unpacked, whole, real)

@@ -38,7 +38,13 @@ pub extern "C" fn fib_validate_profile(
     whole: &mut [u64; 4],
     real: &mut [f64; 2],
 ) -> u32
-    ensures { λ r. ⌜ found r (now (whole .exit)) (now (real .exit)) ≡ crossed none (validity (profileFrom «ambient_dim» «block_dim» «codebook_size» «paper_rate» «wire_index_bits» «wire_rate» «norm_format» «rotation_seed» «codebook_seed» «source_mode» «radius_method» «direction_method» restarts iterations «training_samples» «empty_cell_policy») (now (schema .entry)) (now («rotation_algorithm» .entry)) log2) ⌝ }
+    ensures { λ r. ⌜ found r (now (whole .exit)) (now (real .exit))
+        ≡ crossed none
+        (validity
+        (profileFrom «ambient_dim» «block_dim» «codebook_size» «paper_rate» «wire_index_bits» «wire_rate»
+        «norm_format» «rotation_seed» «codebook_seed» «source_mode» «radius_method» «direction_method»
+        restarts iterations «training_samples» «empty_cell_policy»)
+        (now (schema .entry)) (now («rotation_algorithm» .entry)) log2) ⌝ }
 {
     let profile = ffi_profile::profile_from(
         ambient_dim,
@@ -110,7 +116,8 @@ pub extern "C" fn fib_block_count(
     whole: &mut [u64; 4],
     real: &mut [f64; 2],
 ) -> u32
-    ensures { λ r. ⌜ found r (now (whole .exit)) (now (real .exit)) ≡ crossed oneWhole (blockCountOf «ambient_dim» «block_dim») ⌝ }
+    ensures { λ r. ⌜ found r (now (whole .exit)) (now (real .exit))
+        ≡ crossed oneWhole (blockCountOf «ambient_dim» «block_dim») ⌝ }
 {
     let answer = with_dimensions(ambient_dim, block_dim).block_count();
     match answer {
@@ -147,8 +154,9 @@ pub extern "C" fn fib_paper_default(
     whole: &mut [u64; 4],
     real: &mut [f64; 2],
 ) -> u32
-    ensures { λ r. ⌜ found r (now (whole .exit)) (now (real .exit)) ≡ crossed ratesIn (paperOf «ambient_dim» «block_dim» «codebook_size» seed log2) ⌝ }
-    ensures { λ r. ⌜ now (fields .exit) ≡ fieldsAfter (paperOf «ambient_dim» «block_dim» «codebook_size» seed log2) (now (fields .entry)) ⌝ }
+    ensures { λ r. ⌜ (let o = paperOf «ambient_dim» «block_dim» «codebook_size» seed log2 in
+        (found r (now (whole .exit)) (now (real .exit)) ≡ crossed ratesIn o)
+        × (now (fields .exit) ≡ fieldsAfter o (now (fields .entry)))) ⌝ }
 {
     let answer = FibQuantProfile::paper_default(ambient_dim, block_dim, codebook_size, seed, log2);
     match answer {

@@ -20,8 +20,11 @@ const LARGEST_DIM: u64 = 4096;
 
 // The matrix times the input.
 pub fn apply(dim: u64, matrix: &[f64], input: &[f64], output: &mut [f64]) -> Checked
-    ensures { λ r. ⌜ checked r ≡ shape dim (length (now (matrix .entry))) (length (now (input .entry))) (length (now (output .entry))) ⌝ }
-    ensures { λ r. ⌜ now (output .exit) ≡ ifCompleted (shape dim (length (now (matrix .entry))) (length (now (input .entry))) (length (now (output .entry)))) (applied dim (now (matrix .entry)) (now (input .entry))) (now (output .entry)) ⌝ }
+    ensures { λ r. ⌜ (let o =
+        shape dim (length (now (matrix .entry))) (length (now (input .entry))) (length (now (output .entry))) in
+        (checked r ≡ o)
+        × (now (output .exit)
+        ≡ ifCompleted o (applied dim (now (matrix .entry)) (now (input .entry))) (now (output .entry)))) ⌝ }
 {
     match check_shape(dim, matrix.len(), input.len(), output.len()) {
         Checked::Accepted => {
@@ -34,8 +37,11 @@ pub fn apply(dim: u64, matrix: &[f64], input: &[f64], output: &mut [f64]) -> Che
 
 // The transposed matrix times the input.
 pub fn apply_inverse(dim: u64, matrix: &[f64], input: &[f64], output: &mut [f64]) -> Checked
-    ensures { λ r. ⌜ checked r ≡ shape dim (length (now (matrix .entry))) (length (now (input .entry))) (length (now (output .entry))) ⌝ }
-    ensures { λ r. ⌜ now (output .exit) ≡ ifCompleted (shape dim (length (now (matrix .entry))) (length (now (input .entry))) (length (now (output .entry)))) (appliedInverse dim (now (matrix .entry)) (now (input .entry))) (now (output .entry)) ⌝ }
+    ensures { λ r. ⌜ (let o =
+        shape dim (length (now (matrix .entry))) (length (now (input .entry))) (length (now (output .entry))) in
+        (checked r ≡ o)
+        × (now (output .exit)
+        ≡ ifCompleted o (appliedInverse dim (now (matrix .entry)) (now (input .entry))) (now (output .entry)))) ⌝ }
 {
     match check_shape(dim, matrix.len(), input.len(), output.len()) {
         Checked::Accepted => {

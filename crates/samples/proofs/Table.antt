@@ -8,8 +8,9 @@ use Rattle.narrow.specs.Format.{unpacked, unitsOf}
 use Rattle.narrow.specs.Pack.{magOf, packed, narrowTo}
 use Rattle.root.specs.Sqrt.{isqrtBy, isqrt, rootOf, sqrtOf}
 use Rattle.norm.specs.Norm.{halfOf, normBits}
-use Rattle.bitpack.specs.Layout.{bits, field, listOf, streamBit, packedBit}
-use Rattle.bitpack.specs.Answers.{packedSize, inRange}
+use Rattle.slices.specs.Lists.{tabulate}
+use Rattle.bitpack.specs.Layout.{bits, field, streamBit, packedBit}
+use Rattle.bitpack.specs.Answers.{packedSize}
 use Rattle.compact.specs.Frame.{bytesOf, header, frameOf}
 use Rattle.lloyd_search.specs.Nearest.{firstLeast}
 use Rattle.lloyd_cells.specs.Cells.{countTo, cellSum, farthest}
@@ -47,7 +48,7 @@ unfolding oneCodewordRow size span climb
 oneCodewordRow-holds = refl
 
 packingRow-holds : packingRow .given ≡ packingRow .stated
-unfolding packingRow bits field listOf packedBit
+unfolding packingRow bits field tabulate packedBit
 packingRow-holds = refl
 
 paddingRow-holds : paddingRow .given ≡ paddingRow .stated
@@ -55,7 +56,7 @@ unfolding paddingRow bits field streamBit packedSize
 paddingRow-holds = refl
 
 frameRow-holds : frameRow .given ≡ frameRow .stated
-unfolding frameRow bits field listOf packedBit bytesOf header frameOf normBits lt unpacked halfOf packed narrowTo
+unfolding frameRow bits field tabulate packedBit bytesOf header frameOf normBits lt unpacked halfOf packed narrowTo
 frameRow-holds = refl
 
 normRow-holds : normRow .given ≡ normRow .stated

@@ -1,21 +1,21 @@
 -- `read_indices` meets its contract: before index i the reader stands at bit i * width, and the indices before it are stored. Assumes nothing.
 use mathlib.Core.Path.{_≡_, refl, ap, _∙_}
-use mathlib.Core.List.{_++_}
-use Prim.Native.Nat.{ℕ, _*_, _-_, _≤_}
+use Prim.Native.Nat.{ℕ, _+_, _*_, _-_, _≤_}
 use native.Mathlib.Omega.{arith}
 use native.Mathlib.Nat.{zero-mul}
-use lib.ListN.{length, drop, length-set}
+use lib.ListN.{length, length-set}
 use borrow.Author.Needs.{needs}
-use Rattle.bitpack.specs.Layout.{listOf, indexAt}
+use Rattle.slices.specs.Lists.{tabulate, filled}
+use Rattle.slices.proofs.TabulateLaw.{filled-with, filled-all}
+use Rattle.bitpack.specs.Layout.{indexAt}
 use Rattle.bitpack.specs.Cursor.{ReaderAt}
-use Rattle.bitpack.proofs.Fields.{put-next, begun-whole}
 use Rattle.bitpack.proofs.Steps.{pullable, next-place, next-within}
 use Rattle.bitpack.proofs.read_indices.Statement.{statement}
 use Rattle.bitpack.proofs.read_indices.Tie as tie
 
 abbrev Inv-loop : tie.InvT-loop
 Inv-loop bytes width output₀ reader₀ i₀ output reader i =
-    (i ≤ length output₀) × (length output ≡ length output₀) × (output ≡ listOf (indexAt bytes width) i ++ drop i output₀) × ReaderAt bytes (i * width) reader
+    (i ≤ length output₀) × (length output ≡ length output₀) × (output ≡ filled i (indexAt bytes width) output₀) × ReaderAt bytes (i * width) reader
 
 abbrev μ-loop : tie.MeasureT-loop
 μ-loop bytes width output₀ reader₀ i₀ output reader i = length output₀ - i
@@ -24,7 +24,7 @@ new-requires : tie.Need-new-requires Inv-loop μ-loop
 new-requires c κs = search needs
 
 loop-holds : tie.Need-loop-holds Inv-loop μ-loop
-unfolding listOf
+unfolding tabulate
 loop-holds c =
     let s = c .before .before .before in
     (omega arith, refl, refl, rw (zero-mul (s .args .width)) (c .new .ensures (s .args .bytes .now)))
@@ -55,7 +55,7 @@ loop-again c =
     let pulled = c .before .pull .ensures (l .loop .i * s .args .width) (l .loop .inv .3) in (
       omega arith,
       length-set (l .loop .output) (l .loop .i) (c .before .pull .result .value) ∙ l .loop .inv .1,
-      put-next (indexAt (s .args .bytes .now) (s .args .width)) (s .args .output .now) (l .loop .output) (l .loop .i) (c .before .pull .result .value) (omega arith) (l .loop .inv .2) (pulled .value),
+      rw (l .loop .inv .2) (filled-with (l .loop .i) (l .loop .i + 1) (indexAt (s .args .bytes .now) (s .args .width)) (s .args .output .now) (c .before .pull .result .value) (omega arith) refl (pulled .value)),
       rw (next-place (l .loop .i) (s .args .width)) (pulled .next),
     )
 
@@ -68,7 +68,7 @@ returns c =
     let s = l .before .before .before .before in
     let e : l .loop .i ≡ length (s .args .output .now) = omega arith in
     let f : ℕ → ℕ = indexAt (s .args .bytes .now) (s .args .width) in
-    l .loop .inv .2 ∙ begun-whole f (s .args .output .now) (l .loop .i) (omega arith) ∙ ap (listOf f) e
+    l .loop .inv .2 ∙ filled-all (l .loop .i) f (s .args .output .now) (omega arith) ∙ ap (λ (n : ℕ). tabulate n f) e
 
 pub read-indices-spec : {M : Type 1} → statement M
 read-indices-spec =

@@ -5,9 +5,9 @@ use native.Mathlib.Omega.{arith}
 use native.Mathlib.Nat.{zero-mul, mul-le-mul-right}
 use lib.ListN.{length, getD}
 use borrow.Author.Needs.{needs}
+use Rattle.slices.proofs.TabulateLaw.{filled-all}
 use Rattle.bitpack.specs.Layout.{packedBit, packedBytes, byteOf, bytesFor}
 use Rattle.bitpack.specs.Cursor.{WriterAt}
-use Rattle.bitpack.proofs.Fields.{begun-whole}
 use Rattle.bitpack.proofs.Packing.{packed-binary, packed-index, packed-after, length-packed}
 use Rattle.bitpack.proofs.Steps.{pushable, finishable, writing-length, next-place, next-within}
 use Rattle.bitpack.proofs.write_indices.Statement.{statement}
@@ -80,7 +80,7 @@ packed c =
     let e : l .loop .i ≡ length xs = omega arith in
     let stands : WriterAt f (length xs * s .args .width) (s .args .output .now) (l .loop .output) (l .loop .writer) = rw e at (l .loop .inv .2) in
     c .before .before .finish .ensures f (length xs * s .args .width) (s .args .output .now) stands (packed-after xs (s .args .width))
-    ∙ begun-whole (byteOf f) (s .args .output .now) (bytesFor (length xs * s .args .width)) (omega (arith, s .pre .2))
+    ∙ filled-all (bytesFor (length xs * s .args .width)) (byteOf f) (s .args .output .now) (omega (arith, s .pre .2))
 
 same-length : tie.Need-same-length Inv-loop μ-loop
 same-length c =

@@ -2,13 +2,14 @@
 use mathlib.Core.Path.{_≡_, sym, ap, _∙_}
 use mathlib.Core.Bool.{true, false, not}
 use mathlib.Core.List.{List}
-use Prim.Native.Nat.{ℕ, _+_, _-_, _≤_}
+use Prim.Native.Nat.{ℕ, _+_, _*_, _-_, _≤_}
 use lib.ListN.{length, getD}
 use denote.Ref.{now}
 use borrow.Author.Tests.{not-true, not-false}
-use Rattle.compact.specs.Frame.{magicIn, countIn, normLengthIn, packedLength}
+use Rattle.bitpack.specs.Layout.{bytesFor}
+use Rattle.compact.specs.Frame.{magicIn, countIn, normLengthIn, WellFormed}
 use native.Mathlib.Omega.{arith}
-use Rattle.compact.proofs.FrameLaws.{parsed-short, parsed-magic, parsed-version, parsed-norm, parsed-length, parsed-whole, WellFormed}
+use Rattle.compact.proofs.FrameLaws.{parsed-short, parsed-magic, parsed-version, parsed-norm, parsed-length, parsed-whole}
 use borrow.Author.Needs.{needs}
 use Rattle.compact.proofs.parse_compact.Statement.{statement}
 use Rattle.compact.proofs.parse_compact.Tie as tie
@@ -27,10 +28,10 @@ right-magic : (c : tie.Else3) → magicIn (bytes-in c) ≡ true
 right-magic c = magic (c .before .before .before) (c .before .before .if2 .left)
 
 -- the length that the indices should have
-asked : (c : tie.After-packed-length) → let bs = bytes-in (c .before .before .before .before .before) in c .packed-length .result ≡ packedLength (getD bs 4 0) (countIn bs)
+asked : (c : tie.After-packed-length) → let bs = bytes-in (c .before .before .before .before .before) in c .packed-length .result ≡ bytesFor (countIn bs * getD bs 4 0)
 asked c =
     let bs = bytes-in (c .before .before .before .before .before) in
-    c .packed-length .ensures ∙ ap (λ (n : ℕ). packedLength (getD bs 4 0) n) (c .before .before .before .read-count .ensures)
+    c .packed-length .ensures ∙ ap (λ (n : ℕ). bytesFor (n * getD bs 4 0)) (c .before .before .before .read-count .ensures)
 
 returns : tie.Need-returns
 returns c = (sym (parsed-short (now (c .before .before .args .bytes)) (c .if1 .taken)), tt)

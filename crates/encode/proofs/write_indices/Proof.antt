@@ -4,16 +4,16 @@ use Prim.Native.Nat.{ℕ, _+_, _*_, _-_, _/_, _≤_}
 use native.Mathlib.Nat.{div-mul-le-self, mul-le-mul-right}
 use native.Mathlib.Omega.{arith}
 use lib.ListN.{length}
+use Rattle.slices.proofs.TabulateLaw.{filled-all}
 use Rattle.bitpack.specs.Layout.{packedBytes, byteOf, bytesFor}
 use Rattle.bitpack.specs.Cursor.{WriterAt}
-use Rattle.bitpack.proofs.Fields.{begun-whole}
 use Rattle.bitpack.proofs.Packing.{packed-after, length-packed}
-use Rattle.bitpack.proofs.Steps.{finishable, writing-length, next-place}
+use Rattle.bitpack.proofs.Steps.{finishable, writing-length, stands-anew, next-place}
 use Rattle.lloyd_search.specs.declared.Found.{Found}
 use Rattle.lloyd_search.proofs.Parts.{row-fits, part-length, part-nearest}
 use Rattle.encode.specs.Encode.{indexFor, indicesFor}
 use Rattle.encode.proofs.EncodeLaw.{length-indices}
-use Rattle.encode.proofs.IndexLaw.{packing, index-small, index-pushable, index-pushed, stands-anew}
+use Rattle.encode.proofs.IndexLaw.{packing, index-small, index-pushable, index-pushed}
 use borrow.Author.Needs.{needs}
 use Rattle.encode.proofs.write_indices.Statement.{statement}
 use Rattle.encode.proofs.write_indices.Tie as tie
@@ -124,7 +124,7 @@ packed c =
     let len = length-indices (a .count) (a .k) (a .n) (a .codewords .now) (a .values .now) in
     let e : l .loop .i ≡ length xs = rw len (omega arith) in
     c .before .before .finish .ensures f (length xs * a .width) _ (rw e at (l .loop .inv .3)) (packed-after xs (a .width))
-    ∙ begun-whole (byteOf f) _ (bytesFor (length xs * a .width)) (omega (arith, s .pre .0 .room, room (l .before), ap (λ (m : ℕ). m * a .width) len))
+    ∙ filled-all (bytesFor (length xs * a .width)) (byteOf f) _ (omega (arith, s .pre .0 .room, room (l .before), ap (λ (m : ℕ). m * a .width) len))
 
 same-length : tie.Need-same-length Inv-loop μ-loop
 same-length c =
