@@ -1,32 +1,20 @@
 -- What an accepted codebook and an accepted call of `codeword` have shown. Assumes nothing.
-use mathlib.Core.Path.{_≡_, refl, sym, subst}
+use mathlib.Core.Path.{_≡_}
 use Prim.Native.Nat.{ℕ, _<_}
-use mathlib.Core.Bool.{true, false, not, _&&_}
+use mathlib.Core.Bool.{not}
 use mathlib.Core.List.{List, [], _∷_}
 use lib.Dec.{T, ltb, eqb}
 use lib.ListN.{length, getD}
-use lib.Ieee.{Float, nan, inf, fin, lt}
+use lib.Ieee.{Float, nan}
 use lib.Ieee.Scale.{finite}
 use borrow.Author.Tests.{not-false, ltb-true, eqb-true}
 use Rattle.error.specs.Numbers.{completed, whole}
-use Rattle.slices.specs.declared.First.the-variants.{Nowhere}
-use Rattle.slices.proofs.FirstLaw.{none-before}
+use Rattle.slices.proofs.FirstLaw.{all-finite}
 use Rattle.lloyd_search.specs.Answers.{codebookShaped}
 use Rattle.lloyd_search.proofs.ShapeLaw.{Codebook, codebook-shape}
 use Rattle.lloyd_search.proofs.AnswersLaw.{passed-check, passed-bounded}
-use Rattle.codebook.specs.Codebook.{firstNotFinite, codewordAlone, codewordsAlone}
-
--- between the infinities
-pub finite-is : (x : Float) → lt (inf true) x && lt x (inf false) ≡ finite x
-unfolding lt
-finite-is nan = refl
-finite-is (inf true) = refl
-finite-is (inf false) = refl
-finite-is (fin s m e) = refl
-
--- where no place is found, every value is finite
-pub all-finite : (xs : List Float) → firstNotFinite xs ≡ Nowhere → (i : ℕ) → i < length xs → T (finite (getD xs i nan))
-all-finite xs e i h = subst T (sym (not-false (finite (getD xs i nan)) (none-before (λ j. not (finite (getD xs j nan))) (length xs) e i h))) tt
+use Rattle.codebook.specs.Codebook.{codewordAlone, codewordsAlone}
+use Rattle.slices.specs.Limit.{firstNotFinite}
 
 pub record CodewordsAccepted (n k : ℕ) (codewords : List Float) : Type 0 where
   pub shape : Codebook n k (length codewords)

@@ -16,7 +16,7 @@ use Rattle.ieee.specs.Sum.{plusZero}
 use Rattle.slices.specs.declared.First.{First}
 use Rattle.slices.specs.declared.First.the-variants.{Nowhere, At}
 use Rattle.slices.specs.First.{firstWhere}
-use Rattle.slices.proofs.FirstLaw.{nowhere}
+use Rattle.slices.proofs.FirstLaw.{nowhere, all-finite}
 use Rattle.narrow.specs.Format.{unpacked}
 use Rattle.bitpack.specs.Layout.{bytesFor, streamBit, packedBit, packedBytes, unpackedIndices, paddingFrom}
 use Rattle.bitpack.proofs.Fields.{field-zero, bit-field}
@@ -25,8 +25,7 @@ use Rattle.compact.specs.Frame.{Parts, parsed, bytesOf}
 use Rattle.compact.proofs.FrameLaws.{parse-written}
 use Rattle.profile.specs.declared.FibQuantProfile.{FibQuantProfile}
 use Rattle.lloyd_search.proofs.AnswersLaw.{passed-check, completed-same}
-use Rattle.codebook.specs.Codebook.{firstNotFinite}
-use Rattle.codebook.proofs.CodebookLaw.{all-finite}
+use Rattle.slices.specs.Limit.{firstNotFinite}
 use Rattle.norm.specs.Norm.{normBits, normValue}
 use Rattle.norm.proofs.NormLaw.{norm-written, read-back}
 use Rattle.decode.specs.Decode.{below, indicesOf, indexed, readable, valued}

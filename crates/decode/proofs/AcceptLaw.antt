@@ -15,8 +15,8 @@ use Rattle.ieee.specs.Bounds.{Upto}
 use Rattle.slices.specs.declared.First.{First}
 use Rattle.slices.specs.declared.First.the-variants.{Nowhere, At}
 use Rattle.slices.specs.First.{firstWhere}
-use Rattle.slices.specs.Limit.{firstOutside}
-use Rattle.slices.proofs.FirstLaw.{none-before}
+use Rattle.slices.specs.Limit.{firstOutside, firstNotFinite}
+use Rattle.slices.proofs.FirstLaw.{none-before, all-finite}
 use Rattle.bitpack.specs.Layout.{indexAt, paddingFrom}
 use Rattle.bitpack.proofs.Packing.{length-unpacked, unpacked-index}
 use Rattle.compact.specs.Frame.{Parts, parsed}
@@ -26,8 +26,6 @@ use Rattle.profile.specs.Facts.{Valid}
 use Rattle.profile.proofs.Facts as profile-facts
 use Rattle.lloyd_search.proofs.AnswersLaw.{passed-check, passed-bounded, completed-same}
 use Rattle.lloyd_search.proofs.LimitLaw.{all-within}
-use Rattle.codebook.specs.Codebook.{firstNotFinite}
-use Rattle.codebook.proofs.CodebookLaw.{all-finite}
 use Rattle.norm.specs.Norm.{normValue}
 use Rattle.decode.specs.Decode.{decoded, lengths, values, matrixLimit, headed, unpadded, offending, below, indicesOf, indexed, unless, onlyFinite, readable, valued, decoding}
 
