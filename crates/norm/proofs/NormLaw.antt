@@ -4,7 +4,7 @@ use mathlib.Core.Logic.{inl, inr}
 use Prim.Native.Nat.{ℕ, zero, suc, _+_, _-_, _*_, _/_, _%_, _^_, _≤_, _<_}
 use native.Mathlib.Nat.{mul-pos, mul-comm, mul-one, zero-mul, mul-right-comm, mul-lt-mul-of-pos-right, le-of-mul-le-mul-right, eq-of-mul-eq-mul-right, eq-zero-or-pos, mod-eq-of-lt, mod-add-div', le-of-eq, lt-of-not-le, lt-of-lt-of-le, le-antisymm, le-of-suc-le-suc, lt-trans, le-trans, mul-le-mul-right}
 use native.Mathlib.Omega.{arith}
-use mathlib.Core.Bool.{Bool, true, false, not, _&&_, cond, true≢false}
+use mathlib.Core.Bool.{Bool, true, false, not, _&&_}
 use mathlib.Core.List.{List, [], _∷_}
 use lib.Dec.{T, ltb, leb, eqb, ltb→lt, nltb→le}
 use lib.ListN.{length}
@@ -15,7 +15,8 @@ use lib.Ieee.Fits.{down-pos}
 use lib.Ieee.Exact.{HasValue}
 use lib.Ieee.Scale.{finite}
 use borrow.Author.Tests.{lt-ltb, le-leb, lt-leb, eq-eqb, not-false, ltb-true, eqb-true}
-use Rattle.error.specs.Numbers.{Outcome, Value, completed, refused}
+use Rattle.error.specs.Numbers.{completed}
+use Rattle.error.proofs.Outcomes.{both, passed, completed-same}
 use Rattle.ieee.specs.Sum.{plusZero}
 use Rattle.ieee.specs.Bounds.{Upto}
 use Rattle.ieee.proofs.Value.{holds-true}
@@ -32,10 +33,6 @@ and-true false = refl
 and-false : (b : Bool) → b && false ≡ false
 and-false true = refl
 and-false false = refl
-
-both : (a b : Bool) → a && b ≡ true → (a ≡ true) × (b ≡ true)
-both true b h = (refl, h)
-both false b h = absurd (true≢false (sym h))
 
 -- ---- finite and above zero
 -- by two comparisons
@@ -124,15 +121,6 @@ pub pattern-norm : (b : ℕ) → 0 < b → b < infOf 11 15 → aboveZero (unpack
 pattern-norm b h k = positive-pattern 11 15 b ∙ rw (lt-ltb 0 b h, lt-ltb b (infOf 11 15) k)
 
 -- ---- what is written and what is read
-module _ {A : Type 0} where
-  -- a completed call has passed the check
-  passed : (t : Bool) (n : ℕ) (v : List Value) (rest : Outcome A) (r : A) → cond t (refused n v) rest ≡ completed r → (t ≡ false) × (rest ≡ completed r)
-  passed true n v rest r e = absurd (let z : _≡_ {A = ℕ} 0 1 = cc in omega arith)
-  passed false n v rest r e = (refl, e)
-
-  same : (a b : A) → completed a ≡ completed b → b ≡ a
-  same a b e = cc
-
 -- the pattern of a positive norm, one that stands for a finite value above zero
 pub record Written (x : Float) (b : ℕ) : Type 0 where
   pub codable : aboveZero x ≡ true
@@ -145,7 +133,7 @@ unfolding normBits
 norm-written x b e =
     let f = passed (not (aboveZero x)) 10 [] _ b e in
     let g = passed (not (aboveZero (unpacked 11 15 (halfOf x)))) 10 [] _ b (f .1) in
-    let i = same (halfOf x) b (g .1) in
+    let i = sym (completed-same (halfOf x) b (g .1)) in
     let r = norm-pattern (halfOf x) (not-false _ (g .0)) in
     record { codable = not-false _ (f .0); is = i; above = omega arith; below = omega arith }
 
@@ -190,7 +178,7 @@ unfolding normValue
 norm-read bytes x e =
     let f = passed (not (eqb (length bytes) 2)) 10 [] _ x e in
     let g = passed (not (aboveZero (unpacked 11 15 (patternOf bytes)))) 10 [] _ x (f .1) in
-    let i = same (unpacked 11 15 (patternOf bytes)) x (g .1) in
+    let i = sym (completed-same (unpacked 11 15 (patternOf bytes)) x (g .1)) in
     let p : aboveZero (unpacked 11 15 (patternOf bytes)) ≡ true = not-false _ (g .0) in
     let r = norm-pattern (patternOf bytes) p in
     let s = both (finite x) (lt plusZero x) (ap aboveZero i ∙ p) in
