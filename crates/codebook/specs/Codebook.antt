@@ -3,19 +3,12 @@ use Prim.Native.Nat.{ℕ}
 use mathlib.Core.Bool.{not, cond}
 use mathlib.Core.List.{List, [], _∷_}
 use lib.Dec.{ltb, eqb}
-use lib.ListN.{length, getD}
-use lib.Ieee.{Float, nan}
-use lib.Ieee.Scale.{finite}
+use lib.ListN.{length}
+use lib.Ieee.{Float}
 use Rattle.error.specs.Names.{codewordsSlice, outputSlice}
 use Rattle.error.specs.Numbers.{Outcome, completed, refused, whole}
-use Rattle.slices.specs.declared.First.{First}
-use Rattle.slices.specs.First.{firstWhere}
 use Rattle.lloyd_search.specs.Shape.{codebookShaped}
-use Rattle.slices.specs.Limit.{bounded}
-
--- the first value that is not finite
-abbrev pub firstNotFinite : List Float → First
-firstNotFinite xs = firstWhere (λ i. not (finite (getD xs i nan))) (length xs)
+use Rattle.slices.specs.Limit.{bounded, firstNotFinite}
 
 -- codeword `index` of n with k coordinates, for an output of this many values
 unfoldable pub codewordAlone : ℕ → ℕ → List Float → ℕ → ℕ → Outcome Unit

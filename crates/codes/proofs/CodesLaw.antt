@@ -13,14 +13,13 @@ use lib.Ieee.Scale.{finite}
 use Rattle.error.specs.Numbers.{completed}
 use Rattle.ieee.specs.Bounds.{Upto, NotNegative}
 use Rattle.ieee.proofs.Bound.{upto-finite, upto-mono}
-use Rattle.slices.specs.Limit.{firstOutside}
+use Rattle.slices.specs.Limit.{firstOutside, firstNotFinite}
 use Rattle.lloyd_search.specs.Distance.{rowOf, distance}
 use Rattle.lloyd_search.specs.Nearest.{nearest, Least}
 use Rattle.lloyd_search.proofs.Parts.{row-place}
 use Rattle.lloyd_search.proofs.LimitLaw.{all-within, passed-bounded}
 use Rattle.lloyd_search.proofs.FiniteLaw.{finite-distance}
-use Rattle.codebook.specs.Codebook.{firstNotFinite}
-use Rattle.codebook.proofs.CodebookLaw.{all-finite}
+use Rattle.slices.proofs.FirstLaw.{all-finite}
 use Rattle.norm.proofs.NormLaw.{norm-written}
 use Rattle.decode.specs.Decode.{values, matrixLimit}
 use Rattle.encode.specs.Encode.{EncodeCall, normOf, searched, encoding}

@@ -17,15 +17,14 @@ use Rattle.ieee.specs.Sum.{plusZero}
 use Rattle.slices.specs.declared.First.{First}
 use Rattle.slices.specs.declared.First.the-variants.{Nowhere, At}
 use Rattle.slices.specs.First.{firstWhere}
-use Rattle.slices.proofs.FirstLaw.{nowhere}
+use Rattle.slices.proofs.FirstLaw.{nowhere, all-finite}
 use Rattle.narrow.specs.Format.{unpacked}
 use Rattle.bitpack.specs.Layout.{bytesFor, streamBit, packedBit, packedBytes, unpackedIndices, paddingFrom}
 use Rattle.bitpack.proofs.Fields.{field-zero, bit-field}
 use Rattle.bitpack.proofs.Packing.{packed-binary, packed-after, packed-byte, length-packed, unpack-pack}
 use Rattle.compact.specs.Frame.{Parts, parsed, bytesOf}
 use Rattle.compact.proofs.FrameLaws.{parse-written}
-use Rattle.codebook.specs.Codebook.{firstNotFinite}
-use Rattle.codebook.proofs.CodebookLaw.{all-finite}
+use Rattle.slices.specs.Limit.{firstNotFinite}
 use Rattle.norm.specs.Norm.{normBits, normValue}
 use Rattle.norm.proofs.NormLaw.{norm-written, read-back}
 use Rattle.decode.specs.Decode.{below, indicesOf, indexed, readable}

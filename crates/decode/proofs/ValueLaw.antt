@@ -19,8 +19,8 @@ use Rattle.slices.proofs.TabulateLaw.{length-tabulate, getD-tabulate, tabulate-
 use Rattle.narrow.specs.Pack.{narrowTo}
 use Rattle.narrow.proofs.PackLaw.{narrow-fits}
 use Rattle.rotation.specs.Apply.{appliedInverse}
-use Rattle.codebook.specs.Codebook.{firstNotFinite}
-use Rattle.codebook.proofs.CodebookLaw.{all-finite}
+use Rattle.slices.specs.Limit.{firstNotFinite}
+use Rattle.slices.proofs.FirstLaw.{all-finite}
 use Rattle.decode.specs.Decode.{rotatedAt, rotated, decodedAt, decoded}
 use Rattle.decode.specs.Work.{Binary32}
 use Rattle.decode.proofs.ListLaw.{firstWhere-ext, take-patched}

@@ -13,7 +13,7 @@ use Rattle.slices.specs.declared.First.{First}
 use Rattle.slices.specs.declared.First.the-variants.{Nowhere, At}
 use Rattle.slices.specs.First.{firstWhere}
 use Rattle.slices.specs.Lists.{tabulate}
-use Rattle.slices.specs.Limit.{firstOutside, bounded}
+use Rattle.slices.specs.Limit.{firstOutside, bounded, firstNotFinite}
 use Rattle.narrow.specs.Pack.{narrowTo}
 use Rattle.bitpack.specs.Layout.{unpackedIndices, paddingFrom}
 use Rattle.compact.specs.Frame.{Parts, parsed}
@@ -21,7 +21,6 @@ use Rattle.profile.specs.declared.FibQuantProfile.{FibQuantProfile}
 use Rattle.profile.specs.Valid.{validity}
 use Rattle.rotation.specs.Apply.{appliedInverse}
 use Rattle.lloyd_search.specs.Distance.{rowOf}
-use Rattle.codebook.specs.Codebook.{firstNotFinite}
 use Rattle.norm.specs.Norm.{normValue}
 
 -- ---- what a decoding is given, but the contents of the buffers that it writes; of these the lengths

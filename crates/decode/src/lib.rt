@@ -29,9 +29,6 @@ ghost use Rattle.decode.specs.Decode.{rotatedAt, decoded, lengths, value
 // The most that a value of the matrix may be in size: 2^20.
 const MATRIX_LIMIT: f64 = 1_048_576.0;
 
-// The bits of +infinity.
-const INFINITY: u32 = 0x7F80_0000;
-
 // The lengths of matrix, codewords, output and float work.
 fn check_lengths(
     d: usize,
@@ -64,7 +61,7 @@ fn check_lengths(
 pub fn check_values(matrix: &[f64], codewords: &[f32]) -> Checked
     ensures { λ r. ⌜ checked r ≡ values (now (matrix .entry)) (now (codewords .entry)) ⌝ }
 {
-    let bad = codebook::first_not_finite(codewords);
+    let bad = slices::first_not_finite(codewords);
     if let First::At(place) = bad {
         return Checked::Refused(Refusal::OutOfBounds {
             slice: names::CODEWORDS_SLICE,
@@ -191,14 +188,6 @@ fn gather(codewords: &[f32], k: usize, indices: &[u8], width: u8, count: usize, 
     }
 }
 
-// Whether x is neither a NaN nor an infinity.
-fn is_finite(x: f32) -> bool
-    ensures { λ r. ⌜ r ≡ finite x ⌝ }
-{
-    let infinity = f32::from_bits(INFINITY);
-    if -infinity < x { x < infinity } else { false }
-}
-
 // The place found earlier, or else this one where it fails.
 fn or_at(found: First, place: usize, fails: bool) -> First
     ensures { λ r. ⌜ r ≡ orAt found place fails ⌝ }
@@ -228,7 +217,7 @@ fn scale(norm: f64, work: &mut [f64], d: usize) -> First
     while i < d {
         let x = narrow::f64_to_f32(work[d + i] * norm);
         work[d + i] = narrow::f32_to_f64(x);
-        bad = or_at(bad, i, !is_finite(x));
+        bad = or_at(bad, i, !ieee::is_finite_f32(x));
         i += 1usize;
     }
     bad

@@ -11,8 +11,8 @@ use Rattle.profile.proofs.Facts as profile-facts
 use Rattle.profile.proofs.Width.{least-width}
 use Rattle.lloyd_search_f32.specs.Finite.{FiniteValues}
 use Rattle.lloyd_search.proofs.LimitLaw.{passed-bounded}
-use Rattle.codebook.specs.Codebook.{firstNotFinite}
-use Rattle.codebook.proofs.CodebookLaw.{all-finite}
+use Rattle.slices.specs.Limit.{firstNotFinite}
+use Rattle.slices.proofs.FirstLaw.{all-finite}
 use Rattle.decode.specs.Decode.{values}
 use Rattle.decode.proofs.AcceptLaw.{passed-length}
 use Rattle.encode.specs.Encode.{EncodeCall, frameLength, fitting}

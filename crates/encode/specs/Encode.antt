@@ -20,7 +20,7 @@ use Rattle.profile.specs.Valid.{validity}
 use Rattle.rotation.specs.Apply.{applied}
 use Rattle.lloyd_search.specs.Distance.{rowOf}
 use Rattle.lloyd_search.specs.Nearest.{nearest}
-use Rattle.codebook.specs.Codebook.{firstNotFinite}
+use Rattle.slices.specs.Limit.{firstNotFinite}
 use Rattle.norm.specs.Norm.{normBits}
 use Rattle.decode.specs.Decode.{values}
 

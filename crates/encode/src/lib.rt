@@ -77,7 +77,7 @@ fn l2_norm(input: &[f32]) -> f64
 fn check_norm(input: &[f32], norm: f64) -> NormBits
     ensures { λ r. ⌜ bitsOf r ≡ normed (now (input .entry)) norm ⌝ }
 {
-    let bad = codebook::first_not_finite(input);
+    let bad = slices::first_not_finite(input);
     if let First::At(place) = bad {
         return NormBits::Refused(Refusal::NonFiniteInput(place as u64));
     }

@@ -3,3 +3,4 @@ pub mod Order
 pub mod Whole
 pub mod Bound
 pub mod Sign
+pub mod Finite

@@ -1,7 +1,9 @@
-// Arithmetic of IEEE 754 that every layer above shares: the definitions of specs/, the laws of proofs/, and the conversion of a whole number.
+// Arithmetic of IEEE 754 that every layer above shares: the definitions of specs/, the laws of proofs/, the conversion of a
+// whole number, and the test for a finite value.
 ghost use mathlib.Core.Path.{_≡_};
 ghost use lib.IntN.{pos};
 ghost use lib.Ieee.{binary64, ofInt};
+ghost use lib.Ieee.Scale.{finite};
 
 // The bit patterns of the infinities. A search starts from one as a constant, since no arithmetic result of a training job is
 // infinite.
@@ -16,4 +18,23 @@ pub fn from_u64(n: u64) -> f64
     ensures { λ r. ⌜ r ≡ ofInt binary64 (pos n) ⌝ }
 {
     std::num::nearest_u64_to_f64(n)
+}
+
+// Whether x is neither a NaN nor an infinity.
+pub fn is_finite(x: f64) -> bool
+    ensures { λ r. ⌜ r ≡ finite x ⌝ }
+{
+    if f64::from_bits(MINUS_INFINITY) < x {
+        x < f64::from_bits(INFINITY)
+    } else {
+        false
+    }
+}
+
+// The same for binary32.
+pub fn is_finite_f32(x: f32) -> bool
+    ensures { λ r. ⌜ r ≡ finite x ⌝ }
+{
+    let infinity = f32::from_bits(INFINITY_F32);
+    if -infinity < x { x < infinity } else { false }
 }

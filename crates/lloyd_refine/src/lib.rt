@@ -375,10 +375,10 @@ pub fn validate_against_profile(
     if !same_settings(report, profile) {
         return Checked::Refused(Refusal::Report(names::SETTINGS_SITE));
     }
-    if !profile::checks::is_finite(report.init_mse) {
+    if !ieee::is_finite(report.init_mse) {
         return Checked::Refused(Refusal::Report(names::MSE_SITE));
     }
-    if !profile::checks::is_finite(report.best_mse) {
+    if !ieee::is_finite(report.best_mse) {
         return Checked::Refused(Refusal::Report(names::MSE_SITE));
     }
     if report.empty_cells_repaired != report.events_used {

@@ -16,15 +16,12 @@ pub enum NormValue {
     Refused(Refusal),
 }
 
-// The bits of +infinity.
-const INFINITY: u64 = 0x7FF0_0000_0000_0000;
-
 // Whether a norm is finite and above zero; a NaN is not.
 fn is_positive(norm: f64) -> bool
     ensures { λ r. ⌜ r ≡ aboveZero norm ⌝ }
 {
     if 0.0 < norm {
-        norm < f64::from_bits(INFINITY)
+        norm < f64::from_bits(ieee::INFINITY)
     } else {
         false
     }

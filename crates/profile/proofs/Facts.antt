@@ -1,6 +1,6 @@
 -- A profile whose checks are completed is valid: the plain facts behind the tests. Assumes nothing.
 use mathlib.Core.Path.{_≡_, refl}
-use mathlib.Core.Bool.{Bool, true, false, not, _||_, cond}
+use mathlib.Core.Bool.{Bool, true, false, not, _||_}
 use mathlib.Core.List.{List}
 use Prim.Native.Nat.{ℕ, zero, suc, _*_, _%_, _≤_}
 use native.Mathlib.Nat.{div-add-mod', mul-le-mul, lt-of-not-le, le-of-suc-le-suc}
@@ -8,7 +8,7 @@ use native.Mathlib.Omega.{arith}
 use lib.Dec.{eqb, leb, ltb}
 use lib.Ieee.{Float}
 use borrow.Author.Tests.{ltb-false, leb-false, eqb-true, eqb-false, not-false}
-use Rattle.error.specs.Numbers.{Outcome, completed, refused, Value, also}
+use Rattle.error.specs.Numbers.{Outcome, completed, also}
 use Rattle.profile.specs.declared.NormFormat.{NormFormat}
 use Rattle.profile.specs.declared.NormFormat.the-variants.{Fp16Paper, F32Reference}
 use Rattle.profile.specs.declared.SourceMode.{SourceMode}
@@ -16,15 +16,11 @@ use Rattle.profile.specs.declared.FibQuantProfile.{FibQuantProfile}
 use Rattle.profile.specs.Tests.{profileSchema, rotationAlgorithm, indexWidth}
 use Rattle.profile.specs.Valid.{named, shapeOf, sizesOf, formatsOf, widthOf, ratesOf, methodsOf, settingsOf, numbersOf, validity}
 use Rattle.profile.specs.Facts.{Shape, Settings, Valid}
+use Rattle.error.proofs.Outcomes.{passed}
 use Rattle.error.proofs.Refusals.{also-first, also-next}
 use Rattle.profile.proofs.Width.{width-range}
 
 -- ---- what a completed answer says of its parts
-
-passed : {A : Type 0} {x : A} (t : Bool) (number : ℕ) (values : List Value) (o : Outcome A) → cond t (refused number values) o ≡ completed x
-    → (t ≡ false) × (o ≡ completed x)
-passed true number values o h = ((cc), (cc))
-passed false number values o h = (refl, h)
 
 neither : (a b : Bool) → (a || b) ≡ false → (a ≡ false) × (b ≡ false)
 neither true b h = ((cc), (cc))
@@ -39,12 +35,12 @@ positive (suc n) h = omega arith
 pub shape-facts : (d k n : ℕ) → shapeOf d k n ≡ completed tt → Shape d k n
 unfolding shapeOf
 shape-facts d k n h =
-    let a = passed (eqb d 0) _ _ _ h in
-    let b = passed (eqb k 0 || leb d k) _ _ _ (a .1) in
-    let e = passed (not (eqb (d % k) 0)) _ _ _ (b .1) in
-    let f = passed (ltb 16384 d) _ _ _ (e .1) in
-    let g = passed (ltb 256 k) _ _ _ (f .1) in
-    let i = neither (ltb n 2) (ltb 1048576 n) (passed (ltb n 2 || ltb 1048576 n) _ _ _ (g .1) .0) in
+    let a = passed (eqb d 0) _ _ _ tt h in
+    let b = passed (eqb k 0 || leb d k) _ _ _ tt (a .1) in
+    let e = passed (not (eqb (d % k) 0)) _ _ _ tt (b .1) in
+    let f = passed (ltb 16384 d) _ _ _ tt (e .1) in
+    let g = passed (ltb 256 k) _ _ _ tt (f .1) in
+    let i = neither (ltb n 2) (ltb 1048576 n) (passed (ltb n 2 || ltb 1048576 n) _ _ _ tt (g .1) .0) in
     let o = neither (eqb k 0) (leb d k) (b .0) in
     let z : d % k ≡ 0 = eqb-true (d % k) 0 (not-false (eqb (d % k) 0) (e .0)) in record {
       some-block = positive k (o .0);
@@ -84,9 +80,9 @@ nine a b e f g i j k l h =
 settings-facts : (restarts iterations samples n : ℕ) → settingsOf restarts iterations samples n ≡ completed tt → Settings restarts iterations samples n
 unfolding settingsOf
 settings-facts restarts iterations samples n h =
-    let r = passed (eqb restarts 0 || ltb 1024 restarts) _ _ _ h in
-    let i = passed (eqb iterations 0 || ltb 100000 iterations) _ _ _ (r .1) in
-    let s = passed (ltb samples n || ltb 10000000 samples) _ _ _ (i .1) in
+    let r = passed (eqb restarts 0 || ltb 1024 restarts) _ _ _ tt h in
+    let i = passed (eqb iterations 0 || ltb 100000 iterations) _ _ _ tt (r .1) in
+    let s = passed (ltb samples n || ltb 10000000 samples) _ _ _ tt (i .1) in
     let r2 = neither (eqb restarts 0) (ltb 1024 restarts) (r .0) in
     let i2 = neither (eqb iterations 0) (ltb 100000 iterations) (i .0) in
     let s2 = neither (ltb samples n) (ltb 10000000 samples) (s .0) in record {
@@ -100,11 +96,11 @@ settings-facts restarts iterations samples n h =
 
 sizes-facts : (d k n : ℕ) → sizesOf d k n ≡ completed tt → (d ≤ 4096) × (n * k ≤ 67108864)
 sizes-facts d k n h =
-    let m = passed (ltb 16777216 (d * d)) _ _ _ h in
-    let v = passed (ltb 67108864 (n * k)) _ _ _ (m .1) in (root-most d (ltb-false 16777216 (d * d) (m .0)), ltb-false 67108864 (n * k) (v .0))
+    let m = passed (ltb 16777216 (d * d)) _ _ _ tt h in
+    let v = passed (ltb 67108864 (n * k)) _ _ _ tt (m .1) in (root-most d (ltb-false 16777216 (d * d) (m .0)), ltb-false 67108864 (n * k) (v .0))
 
 width-fact : (bits n : ℕ) → widthOf bits n ≡ completed tt → bits ≡ indexWidth n
-width-fact bits n h = eqb-true bits (indexWidth n) (not-false (eqb bits (indexWidth n)) (passed (not (eqb bits (indexWidth n))) _ _ _ h .0))
+width-fact bits n h = eqb-true bits (indexWidth n) (not-false (eqb bits (indexWidth n)) (passed (not (eqb bits (indexWidth n))) _ _ _ tt h .0))
 
 pub valid : (p : FibQuantProfile) (schema algorithm : List ℕ) (log2 : Float) → validity p schema algorithm log2 ≡ completed tt → Valid p
 unfolding validity numbersOf

@@ -1,5 +1,4 @@
--- Laws of floats that the rates are tested by: finiteness by comparison with the infinities, and a bound on a magnitude by two bounds.
--- Assumes nothing.
+-- A bound on a magnitude by two bounds, by which the rates are tested. Assumes nothing.
 use mathlib.Core.Path.{_≡_, refl, sym}
 use mathlib.Core.Bool.{Bool, true, false, _&&_, _||_}
 use Prim.Native.Nat.{ℕ, zero, suc, _+_, _*_}
@@ -7,22 +6,8 @@ use native.Mathlib.Omega.{arith}
 use lib.IntN.{ℤ}
 use lib.Dec.{eqb, ltb}
 use lib.Ieee.{Float, nan, inf, fin, lt, le, eq, up, down}
-use lib.Ieee.Scale.{finite}
 use borrow.Author.Tests.{eqb-true, eqb-false, eq-eqb, ne-eqb, lt-ltb}
 use Rattle.profile.specs.Tests.{abs}
-
-pub finite-between : (x : Float) → lt (inf true) x ≡ true → lt x (inf false) ≡ finite x
-unfolding lt
-finite-between nan h = refl
-finite-between (inf true) h = cc
-finite-between (inf false) h = refl
-finite-between (fin s m e) h = refl
-
-pub not-finite : (x : Float) → lt (inf true) x ≡ false → false ≡ finite x
-unfolding lt
-not-finite nan h = refl
-not-finite (inf s) h = refl
-not-finite (fin s m e) h = sym h
 
 eqb-sym : (a b : ℕ) → eqb a b ≡ eqb b a
 eqb-sym a b = go (eqb a b) (eqb-true a b) (eqb-false a b)

@@ -8,11 +8,7 @@ use lib.Pow.{pow-mono}
 use lib.Ieee.{size}
 use lib.Ieee.Digits.{size-lt, size-le}
 use Rattle.profile.specs.Tests.{indexWidth}
-
--- w binary digits hold m, and fewer do not
-pub record LeastWidth (m w : ℕ) : Type 0 where
-  pub holds : m < 2 ^ w
-  pub least : (v : ℕ) → m < 2 ^ v → w ≤ v
+use Rattle.profile.specs.Facts.{LeastWidth}
 
 pub least-width : (n : ℕ) → LeastWidth (n - 1) (indexWidth n)
 least-width n = record { holds = size-lt (n - 1); least = size-le (n - 1) }

@@ -1,4 +1,5 @@
--- What holds of the numbers of a valid profile: the law is `valid` of proofs/Facts.antt. Definitions only.
+-- What holds of the numbers of a valid profile, and of the width of an index: the laws are `valid` of proofs/Facts.antt and
+-- `least-width` of proofs/Width.antt. Definitions only.
 use mathlib.Core.Path.{_≡_}
 use Prim.Native.Nat.{ℕ, _*_, _/_, _^_, _≤_, _<_}
 use Rattle.profile.specs.declared.NormFormat.the-variants.{Fp16Paper}
@@ -14,6 +15,11 @@ pub record Shape (d k n : ℕ) : Type 0 where
   pub block-most : k ≤ 256
   pub book-least : 2 ≤ n
   pub book-most : n ≤ 2 ^ 20
+
+-- w binary digits hold m, and fewer do not
+pub record LeastWidth (m w : ℕ) : Type 0 where
+  pub holds : m < 2 ^ w
+  pub least : (v : ℕ) → m < 2 ^ v → w ≤ v
 
 -- the settings of a training with n codewords
 pub record Settings (restarts iterations samples n : ℕ) : Type 0 where

@@ -11,7 +11,6 @@ ghost use mathlib.Core.Path.{_≡_};
 ghost use Rattle.error.specs.Numbers.{checked};
 ghost use Rattle.error.specs.Numbers as numbers;
 ghost use lib.Ieee.{le};
-ghost use lib.Ieee.Scale.{finite};
 ghost use Rattle.profile.specs.Tests.{sameBytes, abs, tolerance, rateAgrees, radiusFor, directionFor, sameRadius, sameDirection, indexWidth};
 ghost use Rattle.profile.specs.Valid as valid;
 
@@ -132,21 +131,6 @@ pub fn width(bits: u8, n: u32) -> Checked
     Checked::Accepted
 }
 
-// The patterns of the infinities.
-const INFINITY: u64 = 0x7FF0_0000_0000_0000;
-
-const MINUS_INFINITY: u64 = 0xFFF0_0000_0000_0000;
-
-// Neither a NaN nor an infinity.
-pub fn is_finite(x: f64) -> bool
-    ensures { λ r. ⌜ r ≡ finite x ⌝ }
-{
-    if f64::from_bits(MINUS_INFINITY) < x {
-        return x < f64::from_bits(INFINITY);
-    }
-    false
-}
-
 // Whether a difference is at most the tolerance, either way.
 fn is_small(difference: f64) -> bool
     ensures { λ r. ⌜ r ≡ le (abs difference) tolerance ⌝ }
@@ -160,8 +144,8 @@ fn is_small(difference: f64) -> bool
 fn rate_agrees(given: f64, expected: f64) -> bool
     ensures { λ r. ⌜ r ≡ rateAgrees given expected ⌝ }
 {
-    if is_finite(given) {
-        if is_finite(expected) {
+    if ieee::is_finite(given) {
+        if ieee::is_finite(expected) {
             return is_small(given - expected);
         }
     }

@@ -3,7 +3,7 @@ use mathlib.Core.Path.{_≡_, ap, _∙_}
 use Prim.Native.Nat.{ℕ, _+_, _*_, _≤_, _<_, _-_}
 use native.Mathlib.Omega.{arith}
 use mathlib.Core.List.{List, _++_}
-use lib.ListN.{length, getD, take, drop, length-append, length-drop, List·getD-append}
+use lib.ListN.{length, getD, take, drop, replicate, length-append, length-drop, List·getD-append}
 use lib.Seq.{length-take-le, take-all}
 use lib.Ieee.{Float, nan, binary64, add, mul}
 use borrow.Rule.Slice.PartMut.{putMid}
@@ -27,10 +27,10 @@ part-is d w = take-all (length w - d) (drop d w) (simp length-drop (omega arith)
 pub length-part : (d : ℕ) (w : List Float) → length w ≡ d + d → length (part d w) ≡ d
 length-part d w n = rw (part-is d w, length-drop d w) (omega arith)
 
--- the second half cleared
-pub half-cleared : (d : ℕ) (matrix w l : List Float) → length w ≡ d + d → l ≡ tabulate (length (part d w)) (λ (c : ℕ). plusZero)
+-- the second half zeroed
+pub half-zeroed : (d : ℕ) (matrix w l : List Float) → length w ≡ d + d → l ≡ replicate (length (part d w)) plusZero
     → putMid d (length w - d) w l ≡ take d w ++ columns d matrix (take d w) 0
-half-cleared d matrix w l n e =
+half-zeroed d matrix w l n e =
     put-after d w l (omega arith) ∙ ap (λ (k : List Float). take d w ++ k) (e ∙ no-row d matrix (take d w) _ (length-part d w n))
 
 -- a buffer w whose first half is that of v, and whose second half is the sums of the columns over the rows before `row`

@@ -1,25 +1,26 @@
 -- Row by row: the sums of the columns over the rows passed. Assumes nothing.
-use mathlib.Core.Path.{_≡_}
+use mathlib.Core.Path.{_≡_, sym}
 use Prim.Native.Nat.{ℕ, suc, _+_, _*_}
 use native.Mathlib.Numerals.{add-one}
 use native.Mathlib.Omega.{arith}
 use mathlib.Core.List.{List}
-use lib.ListN.{length, getD}
+use lib.ListN.{length, getD, replicate}
 use lib.Ieee.{Float, nan, binary64, add, mul}
 use Rattle.ieee.specs.Sum.{sumTo, plusZero}
 use Rattle.slices.specs.Lists.{tabulate}
 use Rattle.rotation.specs.Apply.{columnSum}
 use Rattle.rotation.specs.AddedRows.{fourAdded}
-use Rattle.slices.proofs.TabulateLaw.{length-tabulate, getD-tabulate, tabulate-ext}
+use Rattle.slices.proofs.TabulateLaw.{length-tabulate, getD-tabulate, tabulate-same, tabulate-ext}
 use Rattle.rotation.proofs.RowLaw.{start-after}
 
 -- the sums of the columns over the first n rows
 abbrev pub columns : ℕ → List Float → List Float → ℕ → List Float
 columns d matrix input n = tabulate d (λ (c : ℕ). columnSum d matrix input c n)
 
-pub no-row : (d : ℕ) (matrix input : List Float) (n : ℕ) → n ≡ d → tabulate n (λ (c : ℕ). plusZero) ≡ columns d matrix input 0
+-- none yet
+pub no-row : (d : ℕ) (matrix input : List Float) (n : ℕ) → n ≡ d → replicate n plusZero ≡ columns d matrix input 0
 unfolding sumTo
-no-row d matrix input n e = rw e
+no-row d matrix input n e = rw e (sym (tabulate-same d plusZero))
 
 -- one more row
 pub next-row : (d : ℕ) (matrix input : List Float) (row at : ℕ) (l : List Float) → at ≡ row * d → l ≡ columns d matrix input row

@@ -3,20 +3,17 @@
 use error::Checked;
 use error::Refusal;
 use error::names;
+use profile::FibQuantProfile;
 ghost use mathlib.Core.Path.{_≡_};
 ghost use Prim.Native.Nat.{ℕ, _+_, _*_, _≤_};
 ghost use mathlib.Core.List.{_++_};
 ghost use lib.ListN.{length, getD, take, drop};
 ghost use lib.Ieee.{nan, binary64, add, mul};
 ghost use Rattle.error.specs.Numbers.{checked, ifCompleted};
-ghost use Rattle.ieee.specs.Sum.{plusZero};
 ghost use Rattle.slices.specs.Lists.{tabulate, filled};
 ghost use Rattle.rotation.specs.Apply.{rowSum, columnSum, appliedAt, applied, appliedInverse, shape};
 ghost use Rattle.rotation.specs.EightRows.{eightRows};
 ghost use Rattle.rotation.specs.AddedRows.{fourAdded};
-
-// The largest d whose matrix is allowed: 4096 × 4096 = 16,777,216.
-const LARGEST_DIM: u64 = 4096;
 
 // The matrix times the input.
 pub fn apply(dim: u64, matrix: &[f64], input: &[f64], output: &mut [f64]) -> Checked
@@ -59,7 +56,11 @@ fn check_shape(dim: u64, matrix: usize, input: usize, output: usize) -> Checked
     if dim == 0 {
         return Checked::Refused(Refusal::ZeroDimension);
     }
-    if dim > LARGEST_DIM {
+    // What this refuses the next test would refuse too; it comes first so that the square can't overflow.
+    if FibQuantProfile::MAX_AMBIENT_DIM < dim {
+        return Checked::Refused(Refusal::ResourceLimitExceeded);
+    }
+    if FibQuantProfile::MAX_ROTATION_MATRIX_VALUES < dim * dim {
         return Checked::Refused(Refusal::ResourceLimitExceeded);
     }
     if matrix as u64 != dim * dim {
@@ -223,7 +224,7 @@ fn rotate_back_fours(matrix: &[f64], input: &[f64], output: &mut [f64]) -> usize
     ensures { λ r. ⌜ r ≤ length (now (input .entry)) ⌝ }
     ensures { λ r. ⌜ now (output .exit) ≡ tabulate (length (now (input .entry))) (λ (c : ℕ). columnSum (length (now (input .entry))) (now (matrix .entry)) (now (input .entry)) c r) ⌝ }
 {
-    clear(output);
+    slices::zero_f64(output);
     let d = input.len();
     let mut row = 0usize;
     let mut at = 0usize;
@@ -254,17 +255,6 @@ fn rotate_back_rest(matrix: &[f64], input: &[f64], output: &mut [f64], first: us
         add_row(matrix, at, input[row], output);
         row += 1;
         at += d;
-    }
-}
-
-// Each output becomes +0.0.
-fn clear(output: &mut [f64])
-    ensures { λ r. ⌜ now (output .exit) ≡ tabulate (length (now (output .entry))) (λ (c : ℕ). plusZero) ⌝ }
-{
-    let mut c = 0usize;
-    while c < output.len() {
-        output[c] = 0.0;
-        c += 1;
     }
 }
 
@@ -379,7 +369,7 @@ fn rotate_back_fours_within(matrix: &[f64], work: &mut [f64], d: usize) -> usize
     ensures { λ r. ⌜ r ≤ d ⌝ }
     ensures { λ r. ⌜ now (work .exit) ≡ take d (now (work .entry)) ++ tabulate d (λ (c : ℕ). columnSum d (now (matrix .entry)) (take d (now (work .entry))) c r) ⌝ }
 {
-    clear(&mut work[d..]);
+    slices::zero_f64(&mut work[d..]);
     let mut row = 0usize;
     let mut at = 0usize;
     while row + 4 <= d {

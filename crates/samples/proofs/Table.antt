@@ -1,9 +1,13 @@
--- THE FACT: every starred sample of document 01 comes out as the paper says. It is computed from the definitions that the contracts cite. Assumes nothing.
+-- THE FACT: every starred sample of document 01 comes out as the paper says, and a default profile is built. It is computed from the
+-- definitions that the contracts cite. Assumes nothing.
 use mathlib.Core.Path.{_≡_, refl}
 use lib.Ieee.{ofInt, round, size, span, climb, units, odd, sum, add, sub, neg, mul, div, lt, eq, le}
 use lib.Count.{trailingZeros}
 use lib.Ieee.Scale.{finite}
 use Rattle.ieee.specs.Sum.{sumTo}
+use Rattle.profile.specs.Tests.{ascii, profileSchema, rotationAlgorithm, sameBytes}
+use Rattle.profile.specs.Valid.{shapeOf, validity, numbersOf, ratesOf, settingsOf}
+use Rattle.profile.specs.Paper.{profileOf, paperOf}
 use Rattle.narrow.specs.Format.{unpacked, unitsOf}
 use Rattle.narrow.specs.Pack.{magOf, packed, narrowTo}
 use Rattle.root.specs.Sqrt.{isqrtBy, isqrt, rootOf, sqrtOf}
@@ -17,7 +21,7 @@ use Rattle.lloyd_cells.specs.Cells.{countTo, cellSum, farthest}
 use Rattle.lloyd_cells.specs.Repair.{donorTo, repairTo}
 use Rattle.lloyd_cells.specs.Update.{updated}
 use Rattle.encode.specs.Encode.{normOf}
-use Rattle.samples.specs.Table.{Hold, table, update, float, floats, splitRow, noDirectionRow, noDonorRow, nearestRow, meanRow, widthRow, oneCodewordRow, packingRow, paddingRow, frameRow, normRow, smallNormRow, narrowingRow, rootRow}
+use Rattle.samples.specs.Table.{Hold, table, update, float, floats, splitRow, noDirectionRow, noDonorRow, nearestRow, meanRow, widthRow, oneCodewordRow, packingRow, paddingRow, frameRow, normRow, smallNormRow, narrowingRow, rootRow, profileRow}
 
 splitRow-holds : splitRow .given ≡ splitRow .stated
 unfolding splitRow update float floats ofInt round size span climb units odd sum add sub neg mul div lt eq le trailingZeros sumTo isqrtBy isqrt rootOf sqrtOf countTo cellSum farthest donorTo repairTo updated
@@ -75,6 +79,10 @@ rootRow-holds : rootRow .given ≡ rootRow .stated
 unfolding rootRow normOf float floats ofInt round size span climb units odd sum add sub neg mul div lt eq le trailingZeros sumTo isqrtBy isqrt rootOf sqrtOf
 rootRow-holds = refl
 
+profileRow-holds : profileRow .given ≡ profileRow .stated
+unfolding profileRow paperOf profileOf shapeOf validity numbersOf ratesOf settingsOf sameBytes profileSchema rotationAlgorithm ascii ofInt round size span climb units odd sum add sub neg div lt eq le trailingZeros finite
+profileRow-holds = refl
+
 pub samples-hold : Hold table
 unfolding table
-samples-hold = (splitRow-holds, (noDirectionRow-holds, (noDonorRow-holds, (nearestRow-holds, (meanRow-holds, (widthRow-holds, (oneCodewordRow-holds, (packingRow-holds, (paddingRow-holds, (frameRow-holds, (normRow-holds, (smallNormRow-holds, (narrowingRow-holds, (rootRow-holds, tt))))))))))))))
+samples-hold = (splitRow-holds, (noDirectionRow-holds, (noDonorRow-holds, (nearestRow-holds, (meanRow-holds, (widthRow-holds, (oneCodewordRow-holds, (packingRow-holds, (paddingRow-holds, (frameRow-holds, (normRow-holds, (smallNormRow-holds, (narrowingRow-holds, (rootRow-holds, (profileRow-holds, tt)))))))))))))))

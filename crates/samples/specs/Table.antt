@@ -1,13 +1,15 @@
--- Document 01's starred samples: what the definitions give, beside what the paper says. Definitions only.
+-- Document 01's starred samples: what the definitions give, beside what the paper says; and a witness of a default profile.
+-- What is stated is written out as values, so that no definition of the library stands on both sides. Definitions only.
 use mathlib.Core.Path.{_≡_}
 use Prim.Native.Nat.{ℕ}
 use mathlib.Core.Bool.{true, false}
 use mathlib.Core.List.{List, [], _∷_, _++_, map}
 use lib.IntN.{pos, negsuc}
-use lib.Ieee.{Float, fin, binary32, binary64, add, sub, ofInt}
+use lib.Ieee.{Float, fin, binary32, binary64, ofInt}
 use Rattle.error.specs.Numbers.{Outcome, completed, refused, andThen, Value, whole, real}
 use Rattle.profile.specs.declared.EmptyCellPolicy.the-variants.{SplitHighestDistortion}
-use Rattle.profile.specs.Paper.{wireBitsOf}
+use Rattle.profile.specs.declared.FibQuantProfile.{FibQuantProfile}
+use Rattle.profile.specs.Paper.{wireBitsOf, paperOf}
 use Rattle.bitpack.specs.Layout.{packedBytes}
 use Rattle.bitpack.specs.Answers.{unpackable}
 use Rattle.compact.specs.Frame.{bytesOf, frameOf}
@@ -17,7 +19,7 @@ use Rattle.lloyd_search.specs.declared.Found.{Found}
 use Rattle.lloyd_search.specs.Distance.{rowOf, vectorOf}
 use Rattle.lloyd_search.specs.Nearest.{nearest, meanError}
 use Rattle.lloyd_events.specs.declared.LloydRepairEvent.{LloydRepairEvent}
-use Rattle.lloyd_cells.specs.Repair.{Repaired, epsilon}
+use Rattle.lloyd_cells.specs.Repair.{Repaired}
 use Rattle.lloyd_cells.specs.Update.{updated}
 use Rattle.encode.specs.Encode.{normOf}
 
@@ -63,9 +65,15 @@ update S samples =
 abbrev foundOf : Found → List Value
 foundOf f = whole (f .index) ∷ real (f .distance) ∷ []
 
+-- 10 and 1; then 2 - 1e-6 and 2 + 1e-6, each rounded once
 unfoldable pub splitRow : Row
 unfolding update floats float
-splitRow = record { given = update 2 (1 ∷ 3 ∷ []); stated = whole 0 ∷ whole 0 ∷ whole 2 ∷ real (float 10) ∷ real (float 1) ∷ real (sub binary64 (float 2) epsilon) ∷ real (add binary64 (float 2) epsilon) ∷ [] }
+splitRow = record {
+  given = update 2 (1 ∷ 3 ∷ []);
+  stated =
+      whole 0 ∷ whole 0 ∷ whole 2 ∷ real (fin false 5 (pos 1)) ∷ real (fin false 1 (pos 0))
+      ∷ real (fin false 9007194751141365 (negsuc 51)) ∷ real (fin false 2251800939585155 (negsuc 49)) ∷ [];
+}
 
 unfoldable pub noDirectionRow : Row
 unfolding update floats float
@@ -77,7 +85,7 @@ noDonorRow = record { given = update 1 (5 ∷ []); stated = whole 15 ∷ whole 1
 
 unfoldable pub nearestRow : Row
 unfolding update floats float
-nearestRow = record { given = foundOf (nearest 1 2 (rowOf 1 (float 1 ∷ fin true 1 (pos 0) ∷ [])) (vectorOf (floats (0 ∷ [])))); stated = whole 0 ∷ real (float 1) ∷ [] }
+nearestRow = record { given = foundOf (nearest 1 2 (rowOf 1 (float 1 ∷ fin true 1 (pos 0) ∷ [])) (vectorOf (floats (0 ∷ [])))); stated = whole 0 ∷ real (fin false 1 (pos 0)) ∷ [] }
 
 unfoldable pub meanRow : Row
 unfolding update floats float
@@ -117,11 +125,19 @@ narrowingRow = record { given = real (narrowTo binary32 (float 16777217)) ∷ []
 
 unfoldable pub rootRow : Row
 unfolding update floats float
-rootRow = record { given = real (normOf (floats (3 ∷ 4 ∷ []))) ∷ []; stated = real (float 5) ∷ [] }
+rootRow = record { given = real (normOf (floats (3 ∷ 4 ∷ []))) ∷ []; stated = real (fin false 5 (pos 0)) ∷ [] }
+
+-- No starred sample but a witness: a default profile is built, here of 8 values in blocks of 2 and 4 codewords, log2 of which is 2.
+-- Its width of an index, its restarts and its training samples.
+abbrev profileShown : FibQuantProfile → List Value
+profileShown p = numbers (p .«wire_index_bits» ∷ p .«lloyd_restarts» ∷ p .«training_samples» ∷ [])
+
+unfoldable pub profileRow : Row
+profileRow = record { given = shown profileShown (paperOf 8 2 4 7 (fin false 1 (pos 1))); stated = numbers (0 ∷ 2 ∷ 4 ∷ 256 ∷ []) }
 
 unfoldable pub table : List Row
-unfolding splitRow noDirectionRow noDonorRow nearestRow meanRow widthRow oneCodewordRow packingRow paddingRow frameRow normRow smallNormRow narrowingRow rootRow
-table = splitRow ∷ noDirectionRow ∷ noDonorRow ∷ nearestRow ∷ meanRow ∷ widthRow ∷ oneCodewordRow ∷ packingRow ∷ paddingRow ∷ frameRow ∷ normRow ∷ smallNormRow ∷ narrowingRow ∷ rootRow ∷ []
+unfolding splitRow noDirectionRow noDonorRow nearestRow meanRow widthRow oneCodewordRow packingRow paddingRow frameRow normRow smallNormRow narrowingRow rootRow profileRow
+table = splitRow ∷ noDirectionRow ∷ noDonorRow ∷ nearestRow ∷ meanRow ∷ widthRow ∷ oneCodewordRow ∷ packingRow ∷ paddingRow ∷ frameRow ∷ normRow ∷ smallNormRow ∷ narrowingRow ∷ rootRow ∷ profileRow ∷ []
 
 -- every row of a table comes out as stated
 abbrev pub Hold : List Row → Type 0

@@ -1,13 +1,20 @@
--- What `firstWhere` finds: a place whose test holds, with none before it; or none at all. Assumes nothing.
-use mathlib.Core.Path.{_≡_, refl, sym, ap, _∙_, subst}
+-- What `firstWhere` and `firstFailing` find: a place whose test holds, or fails, with none before it; or none at all. Assumes nothing.
+use mathlib.Core.Path.{_≡_, refl, sym, ap, subst}
 use mathlib.Core.Logic.{inl, inr}
-use Prim.Native.Nat.{ℕ, zero, suc, _<_, _≤_}
+use Prim.Native.Nat.{ℕ, zero, suc, _<_}
 use native.Mathlib.Nat.{eq-or-lt-of-le, le-of-suc-le-suc, le-trans, le-suc, le-refl}
 use native.Mathlib.Omega.{arith}
-use mathlib.Core.Bool.{Bool, true, false, cond}
+use mathlib.Core.Bool.{Bool, true, false, not}
+use mathlib.Core.List.{List}
+use lib.Dec.{T}
+use lib.ListN.{length, getD}
+use lib.Ieee.{Float, nan}
+use lib.Ieee.Scale.{finite}
+use borrow.Author.Tests.{not-false}
 use Rattle.slices.specs.declared.First.{First}
 use Rattle.slices.specs.declared.First.the-variants.{Nowhere, At}
 use Rattle.slices.specs.First.{firstWhere, orAt}
+use Rattle.slices.specs.Limit.{firstFailing, firstNotFinite}
 
 -- what holds below n and at n holds below suc n
 pub below-suc : (P : ℕ → Type 0) (n : ℕ) → ((i : ℕ) → i < n → P i) → P n → (i : ℕ) → i < suc n → P i
@@ -48,3 +55,18 @@ module _ (t : ℕ → Bool) where
 
   pub first-is : (n j : ℕ) → firstWhere t n ≡ At j → (j < n) × (t j ≡ true) × ((i : ℕ) → i < j → t i ≡ false)
   first-is n j e = subst (Says n) e (says n)
+
+-- ---- the first place where a test fails
+module _ (t : ℕ → Bool) where
+  pub none-fails : (n : ℕ) → ((i : ℕ) → i < n → t i ≡ true) → firstWhere (λ i. not (t i)) n ≡ Nowhere
+  none-fails n h = nowhere (λ i. not (t i)) n (λ i l. ap not (h i l))
+
+  pub fails-first : (n j : ℕ) → j < n → ((i : ℕ) → i < j → t i ≡ true) → t j ≡ false → firstWhere (λ i. not (t i)) n ≡ At j
+  fails-first n j l h e = at-first (λ i. not (t i)) n j l (λ i m. ap not (h i m)) (ap not e)
+
+-- where no place is found, every value passes the test
+pub all-pass : (test : Float → Bool) (xs : List Float) → firstFailing test xs ≡ Nowhere → (i : ℕ) → i < length xs → T (test (getD xs i nan))
+all-pass test xs e i l = subst T (sym (not-false (test (getD xs i nan)) (none-before (λ j. not (test (getD xs j nan))) (length xs) e i l))) tt
+
+pub all-finite : (xs : List Float) → firstNotFinite xs ≡ Nowhere → (i : ℕ) → i < length xs → T (finite (getD xs i nan))
+all-finite = all-pass finite

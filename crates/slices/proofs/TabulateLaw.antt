@@ -5,7 +5,7 @@ use Prim.Native.Nat.{ℕ, zero, suc, _+_, _≤_, _<_}
 use native.Mathlib.Omega.{arith}
 use native.Mathlib.Numerals.{add-one}
 use mathlib.Core.List.{List, [], _∷_, append-nil}
-use lib.ListN.{length, getD, set, drop, drop-of-length-le}
+use lib.ListN.{length, getD, set, drop, replicate, drop-of-length-le}
 use lib.Seq.{drop-at, ext-getD}
 use Rattle.slices.specs.Lists.{tabulate, filled}
 
@@ -20,6 +20,12 @@ module _ {A : Type 0} where
   getD-tabulate zero f i d h = absurd (omega arith)
   getD-tabulate (suc n) f zero d h = refl
   getD-tabulate (suc n) f (suc i) d h = getD-tabulate n (λ (j : ℕ). f (suc j)) i d (omega arith)
+
+  -- the same element at every place
+  pub tabulate-same : (n : ℕ) (a : A) → tabulate n (λ i. a) ≡ replicate n a
+  unfolding tabulate
+  tabulate-same zero a = refl
+  tabulate-same (suc n) a = ap (λ (l : List A). a ∷ l) (tabulate-same n a)
 
   pub tabulate-ext : (n : ℕ) (f g : ℕ → A) → ((i : ℕ) → i < n → f i ≡ g i) → tabulate n f ≡ tabulate n g
   unfolding tabulate

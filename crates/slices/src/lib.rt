@@ -1,11 +1,12 @@
-// Small loops over lent slices that every layer above shares: filling with zeros, and the check of magnitude.
+// Small loops over lent slices that every layer above shares: filling with zeros, and the checks of values.
 ghost use mathlib.Core.Path.{_≡_};
 ghost use Prim.Native.Nat.{ℕ, _+_, _≤_, _<_};
 ghost use mathlib.Core.Bool.{true};
 ghost use lib.ListN.{length, getD, replicate};
 ghost use lib.Ieee.{nan};
+ghost use lib.Ieee.Scale.{finite};
 ghost use Rattle.ieee.specs.Sum.{plusZero};
-ghost use Rattle.slices.specs.Limit.{within, firstOutside};
+ghost use Rattle.slices.specs.Limit.{within, firstOutside, firstNotFinite};
 
 // The first place at which something was found.
 pub enum First {
@@ -36,7 +37,7 @@ pub fn zero_u32(s: &mut [u32])
 }
 
 // Whether x is at most the limit in size; a NaN is not.
-pub fn is_within(limit: f64, x: f64) -> bool
+fn is_within(limit: f64, x: f64) -> bool
     ensures { λ r. ⌜ r ≡ within limit x ⌝ }
 {
     let size = if -x < x { x } else { -x };
@@ -81,6 +82,51 @@ pub fn first_outside(s: &[f64], limit: f64) -> First
     while i < s.len() {
         let x = s[i];
         if !is_within(limit, x) {
+            return First::At(i);
+        }
+        i += 1usize;
+    }
+    First::Nowhere
+}
+
+// The same scan over values of binary32, for those that are not finite: whether eight values from `at` on all are.
+fn eight_finite(s: &[f32], at: usize) -> bool
+    requires { ⌜ at + 8 ≤ length (now s) ⌝ }
+    ensures { λ r. ⌜ (r ≡ true → (j : ℕ) → j < 8 → finite (getD (now (s .entry)) (at + j) nan) ≡ true) ⌝ }
+{
+    ieee::is_finite_f32(s[at])
+        & ieee::is_finite_f32(s[at + 1])
+        & ieee::is_finite_f32(s[at + 2])
+        & ieee::is_finite_f32(s[at + 3])
+        & ieee::is_finite_f32(s[at + 4])
+        & ieee::is_finite_f32(s[at + 5])
+        & ieee::is_finite_f32(s[at + 6])
+        & ieee::is_finite_f32(s[at + 7])
+}
+
+// How many values, counted in eights, come before the first eight that are not all finite.
+fn eights_finite(s: &[f32]) -> usize
+    ensures { λ r. ⌜ r ≤ length (now (s .entry)) ⌝ }
+    ensures { λ r. ⌜ ((j : ℕ) → j < r → finite (getD (now (s .entry)) j nan) ≡ true) ⌝ }
+{
+    let mut i = 0usize;
+    while i + 8 <= s.len() {
+        if !eight_finite(s, i) {
+            return i;
+        }
+        i += 8usize;
+    }
+    i
+}
+
+// The first value that is not finite: eight at a time while all are, then one at a time.
+pub fn first_not_finite(s: &[f32]) -> First
+    ensures { λ r. ⌜ r ≡ firstNotFinite (now (s .entry)) ⌝ }
+{
+    let mut i = eights_finite(s);
+    while i < s.len() {
+        let x = s[i];
+        if !ieee::is_finite_f32(x) {
             return First::At(i);
         }
         i += 1usize;

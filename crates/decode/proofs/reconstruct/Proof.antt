@@ -8,7 +8,7 @@ use Rattle.error.specs.Numbers.{completed, refused, whole, accepted, contents}
 use Rattle.ieee.specs.Sum.{plusZero}
 use Rattle.slices.specs.declared.First.the-variants.{Nowhere, At}
 use Rattle.bitpack.specs.Layout.{unpackedIndices}
-use Rattle.codebook.specs.Codebook.{firstNotFinite}
+use Rattle.slices.specs.Limit.{firstNotFinite}
 use Rattle.decode.specs.Decode.{decoded, onlyFinite}
 use Rattle.decode.proofs.ValueLaw.{first-bad, copied, copyable}
 use borrow.Author.Needs.{needs}

@@ -66,8 +66,8 @@ mul-work c = search needs
 slice-write-work : tie.Need-slice-write-work Inv-loop μ-loop
 slice-write-work c = search needs
 
-is-finite-requires : tie.Need-is-finite-requires Inv-loop μ-loop
-is-finite-requires c κs = search needs
+is-finite-f32-requires : tie.Need-is-finite-f32-requires Inv-loop μ-loop
+is-finite-f32-requires c κs = search needs
 
 or-at-requires : tie.Need-or-at-requires Inv-loop μ-loop
 or-at-requires c κs = search needs
@@ -86,8 +86,8 @@ loop-again c =
     let v : x ≡ scaled (a .norm) (a .work .now) (a .d) (l .loop .i) = value (a .norm) (a .work .now) (l .loop .work) (a .d) (l .loop .i) x (l .loop .inv .3) (c .before .before .before .f64-to-f32 .ensures) in (
       omega arith,
       length-set (l .loop .work) (a .d + l .loop .i) (c .before .before .f32-to-f64 .result) ∙ l .loop .inv .1,
-      noted (fails (a .norm) (a .work .now) (a .d)) (l .loop .i) (l .loop .bad) (c .or-at .result) (not (c .before .is-finite .result)) (l .loop .inv .2)
-          (ap not (c .before .is-finite .ensures ∙ ap finite v)) (c .or-at .ensures),
+      noted (fails (a .norm) (a .work .now) (a .d)) (l .loop .i) (l .loop .bad) (c .or-at .result) (not (c .before .is-finite-f32 .result)) (l .loop .inv .2)
+          (ap not (c .before .is-finite-f32 .ensures ∙ ap finite v)) (c .or-at .ensures),
       patched-more (a .work .now) (l .loop .work) (a .d) (l .loop .i) (a .d + l .loop .i) (scaled (a .norm) (a .work .now) (a .d)) (c .before .before .f32-to-f64 .result) (l .loop .inv .3) refl (c .before .before .f32-to-f64 .ensures ∙ v),
     )
 
@@ -118,7 +118,7 @@ scale-spec =
     add-work
     mul-work
     slice-write-work
-    is-finite-requires
+    is-finite-f32-requires
     or-at-requires
     add-i
     loop-less

@@ -17,14 +17,14 @@ Inv-loop matrix input output₀ d row₀ at₀ output row at =
 abbrev μ-loop : tie.MeasureT-loop
 μ-loop matrix input output₀ d row₀ at₀ output row at = d - row
 
-clear-requires : tie.Need-clear-requires Inv-loop μ-loop
-clear-requires c κs = search needs
+zero-f64-requires : tie.Need-zero-f64-requires Inv-loop μ-loop
+zero-f64-requires c κs = search needs
 
 loop-holds : tie.Need-loop-holds Inv-loop μ-loop
 loop-holds c =
     let a = c .before .before .before .before .before .before .before in
-    let e : c .before .before .clear .last .0 ≡ columns (length (a .args .input .now)) (a .args .matrix .now) (a .args .input .now) 0
-    = c .before .before .clear .ensures ∙ no-row (length (a .args .input .now)) (a .args .matrix .now) (a .args .input .now) (length (a .args .output .now)) (a .pre .1) in
+    let e : c .before .before .zero-f64 .last .0 ≡ columns (length (a .args .input .now)) (a .args .matrix .now) (a .args .input .now) 0
+    = c .before .before .zero-f64 .ensures ∙ no-row (length (a .args .input .now)) (a .args .matrix .now) (a .args .input .now) (length (a .args .output .now)) (a .pre .1) in
     (omega arith, omega arith, ap length e ∙ length-tabulate _ _, e)
 
 add-loop : tie.Need-add-loop Inv-loop μ-loop
@@ -106,7 +106,7 @@ rotate-back-fours-spec =
     (tie.spec
     Inv-loop
     μ-loop
-    clear-requires
+    zero-f64-requires
     loop-holds
     add-loop
     mul-first

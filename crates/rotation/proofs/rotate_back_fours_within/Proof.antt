@@ -10,7 +10,7 @@ use borrow.Rule.Slice.PartMut.{putMid, take-put}
 use borrow.Author.Needs.{needs}
 use Rattle.rotation.proofs.RowLaw.{start-after, rows-inside}
 use Rattle.rotation.proofs.ColumnLaw.{columns}
-use Rattle.rotation.proofs.ColumnHalfLaw.{length-halves, length-part, half-cleared, half-next-rows}
+use Rattle.rotation.proofs.ColumnHalfLaw.{length-halves, length-part, half-zeroed, half-next-rows}
 use Rattle.rotation.proofs.rotate_back_fours_within.Statement.{statement}
 use Rattle.rotation.proofs.rotate_back_fours_within.Tie as tie
 
@@ -21,29 +21,29 @@ Inv-loop matrix work₀ d row₀ at₀ work row at =
 abbrev μ-loop : tie.MeasureT-loop
 μ-loop matrix work₀ d row₀ at₀ work row at = d - row
 
-mul-clear : tie.Need-mul-clear Inv-loop μ-loop
-mul-clear c = search needs
+mul-zero-f64 : tie.Need-mul-zero-f64 Inv-loop μ-loop
+mul-zero-f64 c = search needs
 
-sub-clear : tie.Need-sub-clear Inv-loop μ-loop
-sub-clear c = search needs
+sub-zero-f64 : tie.Need-sub-zero-f64 Inv-loop μ-loop
+sub-zero-f64 c = search needs
 
-part-clear-start : tie.Need-part-clear-start Inv-loop μ-loop
-part-clear-start c = search needs
+part-zero-f64-start : tie.Need-part-zero-f64-start Inv-loop μ-loop
+part-zero-f64-start c = search needs
 
-part-clear-end : tie.Need-part-clear-end Inv-loop μ-loop
-part-clear-end c = search needs
+part-zero-f64-end : tie.Need-part-zero-f64-end Inv-loop μ-loop
+part-zero-f64-end c = search needs
 
-clear-requires : tie.Need-clear-requires Inv-loop μ-loop
-clear-requires c κs = search needs
+zero-f64-requires : tie.Need-zero-f64-requires Inv-loop μ-loop
+zero-f64-requires c κs = search needs
 
 loop-holds : tie.Need-loop-holds Inv-loop μ-loop
 loop-holds c =
     let a = c .before .before .before .before .before .before in
     let d = a .args .d in
     let w = a .args .work .now in
-    let l = c .before .before .clear .last .0 in
+    let l = c .before .before .zero-f64 .last .0 in
     let u = putMid d (length w - d) w l in
-    let e : u ≡ take d w ++ columns d (a .args .matrix .now) (take d w) 0 = half-cleared d (a .args .matrix .now) w l (a .pre .1) (c .before .before .clear .ensures) in
+    let e : u ≡ take d w ++ columns d (a .args .matrix .now) (take d w) 0 = half-zeroed d (a .args .matrix .now) w l (a .pre .1) (c .before .before .zero-f64 .ensures) in
     let h : d ≤ length w = omega arith in
     let n : length u ≡ d + d = ap length e ∙ length-halves d (take d w) _ (length-take-le d w h) in
     (omega arith, omega arith, n, omega arith, rw (take-put d (length w - d) w l h) e)
@@ -125,7 +125,7 @@ loop-again c =
     let a = l .before .before .before .before .before .before .before in
     let d = a .args .d in
     let w = l .loop .work in
-    let v = putMid d (length (a .args .work .now) - d) (a .args .work .now) (l .before .before .before .clear .last .0) in
+    let v = putMid d (length (a .args .work .now) - d) (a .args .work .now) (l .before .before .before .zero-f64 .last .0) in
     let r = c .before .before .add-four-rows .last .1 .1 .1 .1 .1 .1 .0 in
     let e : putMid d (length w - d) w r ≡ take d v ++ columns d (a .args .matrix .now) (take d v) (l .loop .row + 4)
     = half-next-rows d (a .args .matrix .now) w v (l .loop .row) (l .loop .at) (l .loop .inv .3) (l .loop .inv .2) (l .loop .inv .1) (l .loop .inv .4) r (omega arith) (c .before .before .add-four-rows .ensures) in
@@ -141,7 +141,7 @@ returns c =
     let a = l .before .before .before .before .before .before .before in
     let d = a .args .d in
     let w = a .args .work .now in
-    let r = l .before .before .before .clear .last .0 in
+    let r = l .before .before .before .zero-f64 .last .0 in
     let t : take d (putMid d (length w - d) w r) ≡ take d w = take-put d (length w - d) w r (omega arith) in
     (omega arith, l .loop .inv .4 ∙ ap (λ (k : List Float). k ++ columns d (a .args .matrix .now) k (l .loop .row)) t)
 
@@ -151,11 +151,11 @@ rotate-back-fours-within-spec =
     (tie.spec
     Inv-loop
     μ-loop
-    mul-clear
-    sub-clear
-    part-clear-start
-    part-clear-end
-    clear-requires
+    mul-zero-f64
+    sub-zero-f64
+    part-zero-f64-start
+    part-zero-f64-end
+    zero-f64-requires
     loop-holds
     add-loop
     mul-first

@@ -1,4 +1,4 @@
--- `codebook::eights_finite` meets its contract: every value passed is finite. Assumes nothing.
+-- `slices::eights_finite` meets its contract: every value passed is finite. Assumes nothing.
 use mathlib.Core.Path.{_≡_}
 use mathlib.Core.Bool.{true}
 use Prim.Native.Nat.{ℕ, _≤_, _<_, _-_}
@@ -8,9 +8,9 @@ use lib.Ieee.{nan}
 use lib.Ieee.Scale.{finite}
 use borrow.Author.Needs.{needs}
 use borrow.Author.Tests.{not-false}
 use Rattle.slices.proofs.EightLaw.{eight-more}
-use Rattle.codebook.proofs.eights_finite.Statement.{statement}
-use Rattle.codebook.proofs.eights_finite.Tie as tie
+use Rattle.slices.proofs.eights_finite.Statement.{statement}
+use Rattle.slices.proofs.eights_finite.Tie as tie
 
 abbrev Inv-loop : tie.InvT-loop
 Inv-loop s i₀ i = (i ≤ length s) × ((j : ℕ) → j < i → finite (getD s j nan) ≡ true)
