@@ -7,11 +7,11 @@ use lib.Ieee.{Float}
 use Rattle.error.specs.Numbers.{completed}
 use Rattle.lloyd_refine.specs.Refine.{Job}
 use Rattle.lloyd_update.specs.Alone.{Call, updateChecks}
-use Rattle.history.specs.History.{Request, History}
-use Rattle.rule.specs.Rule.{Rule}
-use Rattle.refinement.specs.Refinement.{AnyRefinement}
+use Rattle.claim_history.specs.History.{Request, History}
+use Rattle.claim_rule.specs.Rule.{Rule}
+use Rattle.claim_refinement.specs.Refinement.{AnyRefinement}
 use Rattle.encode.specs.Encode.{EncodeCall, encoding}
-use Rattle.codes.specs.Codes.{EncodedBlocks}
+use Rattle.claim_codes.specs.Codes.{EncodedBlocks}
 
 pub record Demand3 : Type 0 where
   -- Every list of updates called alone, refused ones included, from any codebook, each given the codebook that the last one left: the last codebook is what the accepted updates made of the first in turn; each accepted one's tallies, counted from its assignments and reported repairs, lie from 1 to samples - codewords + 1 and total the samples; without the refused, the others give the same answers and repairs and the same last codebook; with as many samples as codewords "no donor" never comes.

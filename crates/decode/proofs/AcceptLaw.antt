@@ -16,7 +16,7 @@ use Rattle.slices.proofs.FirstLaw.{none-before}
 use Rattle.bitpack.specs.Layout.{indexAt}
 use Rattle.bitpack.proofs.Packing.{length-unpacked, unpacked-index}
 use Rattle.compact.specs.Frame.{Parts}
-use Rattle.profile.specs.Facts.{Valid}
+use Rattle.profile.specs.Valid.{Valid}
 use Rattle.profile.proofs.Facts as profile-facts
 use Rattle.decode.specs.Decode.{DecodeCall, headed, unpadded, offending, indicesOf, indexed, readable}
 use Rattle.decode.proofs.CheckLaw.{Passes, Sizes, Bounds, Indices}

@@ -10,7 +10,7 @@ use Rattle.error.specs.Numbers.{Outcome, completed, refused, whole, refusal, an
 use Rattle.error.proofs.Refusals.{by-refusal, also-refused, also-then}
 use Rattle.bitpack.specs.Layout.{paddingFrom}
 use Rattle.compact.specs.Frame.{Parts, parsed}
-use Rattle.profile.specs.Valid.{validity}
+use Rattle.profile.specs.Checks.{validity}
 use Rattle.norm.specs.Norm.{normValue}
 use Rattle.decode.specs.Decode.{DecodeCall, lengths, values, below, indicesOf, indexed, readable, decodable, valued, decoding}
 

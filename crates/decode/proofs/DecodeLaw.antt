@@ -19,7 +19,7 @@ use Rattle.bitpack.proofs.Packing.{length-unpacked, unpacked-index}
 use Rattle.compact.specs.Frame.{Parts, parsed}
 use Rattle.compact.proofs.FrameLaws.{length-indices}
 use Rattle.profile.specs.declared.FibQuantProfile.{FibQuantProfile}
-use Rattle.profile.specs.Facts.{Valid}
+use Rattle.profile.specs.Valid.{Valid}
 use Rattle.lloyd_search.specs.Distance.{rowOf}
 use Rattle.decode.specs.Decode.{rotatedAt, below, unpadded}
 

@@ -18,7 +18,7 @@ use Rattle.narrow.specs.Pack.{narrowTo}
 use Rattle.bitpack.specs.Layout.{unpackedIndices, paddingFrom}
 use Rattle.compact.specs.Frame.{Parts, parsed}
 use Rattle.profile.specs.declared.FibQuantProfile.{FibQuantProfile}
-use Rattle.profile.specs.Valid.{validity}
+use Rattle.profile.specs.Checks.{validity}
 use Rattle.rotation.specs.Apply.{appliedInverse}
 use Rattle.lloyd_search.specs.Distance.{rowOf}
 use Rattle.norm.specs.Norm.{normValue}

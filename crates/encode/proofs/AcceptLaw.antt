@@ -6,7 +6,7 @@ use lib.ListN.{length}
 use Rattle.error.specs.Numbers.{completed}
 use Rattle.error.proofs.Refusals.{also-first, also-next}
 use Rattle.profile.specs.declared.FibQuantProfile.{FibQuantProfile}
-use Rattle.profile.specs.Facts.{Valid}
+use Rattle.profile.specs.Valid.{Valid}
 use Rattle.profile.proofs.Facts as profile-facts
 use Rattle.profile.proofs.Width.{least-width}
 use Rattle.lloyd_search_f32.specs.Finite.{FiniteValues}

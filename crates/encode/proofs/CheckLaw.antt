@@ -7,7 +7,7 @@ use lib.Ieee.{Float}
 use Rattle.error.specs.declared.Refusal.{Refusal}
 use Rattle.error.specs.Numbers.{Outcome, completed, refusal, andThen, ifCompleted, accepted, contents}
 use Rattle.error.proofs.Refusals.{by-refusal, also-refused, also-then}
-use Rattle.profile.specs.Valid.{validity}
+use Rattle.profile.specs.Checks.{validity}
 use Rattle.decode.specs.Decode.{values}
 use Rattle.encode.specs.Encode.{EncodeCall, normOf, frameFor, lengths, normed, fitting, codable, encoding}
 

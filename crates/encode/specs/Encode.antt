@@ -16,7 +16,7 @@ use Rattle.root.specs.Sqrt.{sqrtOf}
 use Rattle.bitpack.specs.Layout.{bytesFor, packedBytes}
 use Rattle.compact.specs.Frame.{bytesOf, frameOf}
 use Rattle.profile.specs.declared.FibQuantProfile.{FibQuantProfile}
-use Rattle.profile.specs.Valid.{validity}
+use Rattle.profile.specs.Checks.{validity}
 use Rattle.rotation.specs.Apply.{applied}
 use Rattle.lloyd_search.specs.Distance.{rowOf}
 use Rattle.lloyd_search.specs.Nearest.{nearest}

@@ -8,7 +8,7 @@ use profile::PaperProfile;
 use profile::Samples;
 use profile::WireBits;
 ghost use mathlib.Core.Path.{_≡_};
-ghost use Rattle.profile.specs.Valid.{validity};
+ghost use Rattle.profile.specs.Checks.{validity};
 ghost use Rattle.profile.specs.Paper.{paperOf, wireBitsOf, blockCountOf, samplesOf};
 ghost use Rattle.ffi_crossing.specs.Crossing.{found, crossed, none, oneWhole};
 ghost use Rattle.ffi_profile.specs.Profiles.{profileFrom, ratesIn, fieldsAfter};

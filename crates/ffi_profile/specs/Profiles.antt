@@ -1,10 +1,10 @@
--- A profile as the host hands it in and gets it back: numbers, with its choices by their codes. Definitions only.
+-- A profile as the host hands it in and gets it back: numbers, with its choices by their numbers. Definitions only.
 use Prim.Native.Nat.{ℕ}
 use mathlib.Core.List.{List, [], _∷_}
 use lib.Ieee.{Float}
 use Rattle.error.specs.Numbers.{Value, real, Outcome, completed, refused}
 use Rattle.profile.specs.declared.FibQuantProfile.{FibQuantProfile}
-use Rattle.ffi_profile.specs.Codes.{normFormatAt, sourceModeAt, radiusMethodBeside, directionMethodAt, policyAt, normFormatCode, sourceModeCode, radiusMethodCode, directionMethodCode, policyCode}
+use Rattle.ffi_profile.specs.Choices.{normFormatAt, sourceModeAt, radiusMethodBeside, directionMethodAt, policyAt, normFormatNumber, sourceModeNumber, radiusMethodNumber, directionMethodNumber, policyNumber}
 
 -- the profile of these fields, in the order of its declaration
 abbrev pub profileFrom : (d k n : ℕ) (paperRate : Float) (bits : ℕ) (wireRate : Float) (norm rotationSeed codebookSeed source radius direction restarts iterations samples policy : ℕ) → FibQuantProfile
@@ -34,16 +34,16 @@ fieldsOf p =
     ∷ p .«block_dim»
     ∷ p .«codebook_size»
     ∷ p .«wire_index_bits»
-    ∷ normFormatCode (p .«norm_format»)
+    ∷ normFormatNumber (p .«norm_format»)
     ∷ p .«rotation_seed»
     ∷ p .«codebook_seed»
-    ∷ sourceModeCode (p .«source_mode»)
-    ∷ radiusMethodCode (p .«radius_method»)
-    ∷ directionMethodCode (p .«direction_method»)
+    ∷ sourceModeNumber (p .«source_mode»)
+    ∷ radiusMethodNumber (p .«radius_method»)
+    ∷ directionMethodNumber (p .«direction_method»)
     ∷ p .«lloyd_restarts»
     ∷ p .«lloyd_iterations»
     ∷ p .«training_samples»
-    ∷ policyCode (p .«empty_cell_policy»)
+    ∷ policyNumber (p .«empty_cell_policy»)
     ∷ []
 
 -- the two rates

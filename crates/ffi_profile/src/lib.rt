@@ -1,6 +1,6 @@
-// A profile as a host hands it in and gets it back: numbers, with its choices by their codes.
+// A profile as a host hands it in and gets it back: numbers, with its choices by their numbers.
 // The functions are public only for the crates of the exports.
-pub mod codes;
+pub mod choices;
 
 use profile::FibQuantProfile;
 ghost use mathlib.Core.Path.{_≡_};
@@ -34,16 +34,16 @@ pub fn profile_from(
         paper_rate_bits_per_coord: paper_rate,
         wire_index_bits,
         wire_bits_per_coord: wire_rate,
-        norm_format: codes::norm_format_at(norm_format),
+        norm_format: choices::norm_format_at(norm_format),
         rotation_seed,
         codebook_seed,
-        source_mode: codes::source_mode_at(source_mode),
-        radius_method: codes::radius_method_beside(direction_method, radius_method),
-        direction_method: codes::direction_method_at(direction_method),
+        source_mode: choices::source_mode_at(source_mode),
+        radius_method: choices::radius_method_beside(direction_method, radius_method),
+        direction_method: choices::direction_method_at(direction_method),
         lloyd_restarts: restarts,
         lloyd_iterations: iterations,
         training_samples,
-        empty_cell_policy: codes::policy_at(empty_cell_policy),
+        empty_cell_policy: choices::policy_at(empty_cell_policy),
     }
 }
 
@@ -61,15 +61,15 @@ pub fn fields_of(profile: FibQuantProfile) -> [u64; 14]
         profile.block_dim as u64,
         profile.codebook_size as u64,
         profile.wire_index_bits as u64,
-        codes::norm_format_code(norm_format),
+        choices::norm_format_number(norm_format),
         profile.rotation_seed,
         profile.codebook_seed,
-        codes::source_mode_code(source_mode),
-        codes::radius_method_code(radius_method),
-        codes::direction_method_code(direction_method),
+        choices::source_mode_number(source_mode),
+        choices::radius_method_number(radius_method),
+        choices::direction_method_number(direction_method),
         profile.lloyd_restarts as u64,
         profile.lloyd_iterations as u64,
         profile.training_samples as u64,
-        codes::policy_code(empty_cell_policy),
+        choices::policy_number(empty_cell_policy),
     ]
 }

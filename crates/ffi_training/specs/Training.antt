@@ -5,14 +5,14 @@ use lib.Ieee.{Float}
 use Rattle.error.specs.Numbers.{Value, real, Outcome, completed, refused}
 use Rattle.lloyd_update.specs.declared.UpdateTerms.{UpdateTerms}
 use Rattle.lloyd_refine.specs.declared.LloydReport.{LloydReport}
-use Rattle.ffi_profile.specs.Codes.{policyAt}
+use Rattle.ffi_profile.specs.Choices.{policyAt}
 
--- the terms of these numbers; an unknown code is the policy that repairs nothing
-abbrev pub termsFrom : (n k policyCode restart iteration : ℕ) → UpdateTerms
-termsFrom n k policyCode restart iteration = record {
+-- the terms of these numbers; an unknown number is the policy that repairs nothing
+abbrev pub termsFrom : (n k policyNumber restart iteration : ℕ) → UpdateTerms
+termsFrom n k policyNumber restart iteration = record {
   «codebook_size» = n;
   «block_dim» = k;
-  policy = policyAt policyCode;
+  policy = policyAt policyNumber;
   restart = restart;
   iteration = iteration;
 }

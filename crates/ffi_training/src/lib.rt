@@ -34,7 +34,7 @@ fn terms(
     UpdateTerms {
         codebook_size,
         block_dim,
-        policy: ffi_profile::codes::policy_at(policy),
+        policy: ffi_profile::choices::policy_at(policy),
         restart,
         iteration,
     }

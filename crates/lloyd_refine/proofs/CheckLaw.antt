@@ -14,8 +14,8 @@ use Rattle.error.proofs.Refusals.{also-first, also-next, also-refused, also-the
 use Rattle.slices.specs.declared.First.{First}
 use Rattle.slices.specs.declared.First.the-variants.{Nowhere, At}
 use Rattle.slices.specs.Limit.{firstOutside, bounded}
-use Rattle.profile.specs.Facts.{Valid}
-use Rattle.profile.specs.Valid.{validity}
+use Rattle.profile.specs.Valid.{Valid}
+use Rattle.profile.specs.Checks.{validity}
 use Rattle.profile.proofs.Facts as profile-facts
 use Rattle.lloyd_search.proofs.LimitLaw.{passed-bounded}
 use Rattle.lloyd_refine.specs.Refine.{Job, sizeOf, dimOf, countOf, restartsOf, refineLimit, lengthChecks, valueChecks, refineChecks}

@@ -17,7 +17,7 @@ use Rattle.lloyd_cells.specs.Work.{Kept}
 use Rattle.lloyd_cells.proofs.TallyLaw.{events-upto}
 use Rattle.lloyd_repair.specs.declared.Turn.{Turn}
 use Rattle.lloyd_repair.specs.declared.Turn.the-variants as turns
-use Rattle.lloyd_repair.specs.Running.{Running, Ready, Turned}
+use Rattle.lloyd_repair.specs.Running.{Running, ReadyRepairs, Turned}
 use Rattle.lloyd_update.proofs.RepairsLaw.{events-within, not-completed}
 use Rattle.lloyd_round.specs.Round.{placesOf, numbersOf, Holding}
 use Rattle.lloyd_refine.specs.declared.LloydReport.{LloydReport}
@@ -27,8 +27,8 @@ use Rattle.lloyd_refine.specs.declared.RefineStep.{RefineStep}
 use Rattle.lloyd_refine.specs.declared.Pause.{Pause}
 use Rattle.lloyd_refine.specs.Refine.{Job, sizeOf, dimOf, refineChecks, roundTerms, Trained, trainedFrom, Best, refinement}
 use Rattle.lloyd_refine.specs.Report.{refinementOf, reportOf}
-use Rattle.lloyd_refine.specs.Standing.{jobOf, roundMeans, roundFar, InRound, Progress, Matches}
-use Rattle.lloyd_refine.specs.Steps.{atCell, Paused, Stands, ReadyIn}
+use Rattle.lloyd_refine.specs.Standing.{jobOf, roundMeans, roundFar, InRound, RefineProgress, Matches}
+use Rattle.lloyd_refine.specs.Pauses.{atCell, Paused, Pausing, ReadyIn}
 use Rattle.lloyd_refine.proofs.CheckLaw.{checks-passed}
 use Rattle.lloyd_refine.proofs.EventLaw.{bests-within, rounds-within, refused-by}
 
@@ -53,7 +53,7 @@ pub report-refused : (j : Job) (x : Refusal) → refusal x ≡ reported j (refus
 report-refused j x = by-refusal (λ (q : Outcome Best) (p : Outcome LloydReport). p ≡ reported j q) (λ n vs. refl) x
 
 pub not-refined : (j : Job) (events : List LloydRepairEvent) (work : List Float) (ints : List ℕ) (s : RefineStep) (x : Refusal) → s .going ≡ false → s .begun ≡ true → s .answer ≡ Refused x
-    → refineChecks j ≡ completed tt → refinement j ≡ refusal x → Progress j events work ints s
+    → refineChecks j ≡ completed tt → refinement j ≡ refusal x → RefineProgress j events work ints s
 not-refined j events work ints s x g b a k e = (
   λ z. absurd (true≢false (sym z ∙ g)),
   λ z. record {
@@ -91,7 +91,7 @@ module _ {j : Job} {b : Best} {t : Trained} {u : Repaired} {s : RefineState} {wo
         subst (λ (z : ℕ). Turned (placesOf (sizeOf j) (dimOf j)) (numbersOf (sizeOf j)) (roundTerms j (s .restart) (s .iteration) z) (j .samples) (roundFar j (t .codebook)) (roundMeans j (t .codebook)) u after left o) (h .earlier)
         (subst (λ (z : Places). Turned z (numbersOf (sizeOf j)) (roundTerms j (s .restart) (s .iteration) (s .before)) (j .samples) (roundFar j (t .codebook)) (roundMeans j (t .codebook)) u after left o) is q)
 
-    turn-ready : Ready p (numbersOf (sizeOf j)) (roundTerms j (s .restart) (s .iteration) (s .before)) (j .samples) (s .made) (s .next) work ints
+    turn-ready : ReadyRepairs p (numbersOf (sizeOf j)) (roundTerms j (s .restart) (s .iteration) (s .before)) (j .samples) (s .made) (s .next) work ints
     turn-ready = record { far = roundFar j (t .codebook); start = roundMeans j (t .codebook); r = u; events = sym (h .made); running = to-turn }
 
   -- ---- where it leaves the refinement
@@ -123,7 +123,7 @@ module _ {j : Job} {b : Best} {t : Trained} {u : Repaired} {s : RefineState} {wo
 
     pub turned : (o : Turn) (p : Pause) → Paused (j .profile) s o p
         → Turned (placesOf (sizeOf j) (dimOf j)) (numbersOf (sizeOf j)) (roundTerms j (s .restart) (s .iteration) (length (t .events))) (j .samples) (roundFar j (t .codebook)) (roundMeans j (t .codebook)) u after left o
-        → Stands j (t .events ++ u .events) after left p
+        → Pausing j (t .events ++ u .events) after left p
     turned (turns.Repair e next) p (over, going, begun, event, state, answer) o =
         let k = length-append (u .events) (e ∷ []) in
         let n = ap length (o .event) in
@@ -170,8 +170,8 @@ module _ {p : FibQuantProfile} {xs : List Float} {most : ℕ} {work : List Float
   small-of = subst (λ (z : FibQuantProfile). 3 * (z .«codebook_size» * z .«block_dim») + z .«codebook_size» < 0x1_0000_0000_0000) (q .matches .profile) (small-places (q .standing))
 
   pub ready-turn : (a : Places) → a ≡ placesOf (p .«codebook_size») (p .«block_dim»)
-      → Ready a (numbersOf (p .«codebook_size»)) (record { dim = p .«block_dim»; cells = p .«codebook_size»; restart = s .restart; iteration = s .iteration; free = most - s .before; shown = most }) xs (s .made) (s .next) work ints
+      → ReadyRepairs a (numbersOf (p .«codebook_size»)) (record { dim = p .«block_dim»; cells = p .«codebook_size»; restart = s .restart; iteration = s .iteration; free = most - s .before; shown = most }) xs (s .made) (s .next) work ints
   ready-turn a e =
       by-job (q .job) (λ (z : Job). InRound z (q .b) (q .t) (q .u) s work ints
-      → Ready a (numbersOf (p .«codebook_size»)) (record { dim = p .«block_dim»; cells = p .«codebook_size»; restart = s .restart; iteration = s .iteration; free = most - s .before; shown = most }) xs (s .made) (s .next) work ints) (q .matches)
+      → ReadyRepairs a (numbersOf (p .«codebook_size»)) (record { dim = p .«block_dim»; cells = p .«codebook_size»; restart = s .restart; iteration = s .iteration; free = most - s .before; shown = most }) xs (s .made) (s .next) work ints) (q .matches)
       (λ h. turn-ready h a e) (q .standing)

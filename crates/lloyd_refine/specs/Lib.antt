@@ -1,4 +1,4 @@
 pub mod Refine
 pub mod Report
 pub mod Standing
-pub mod Steps
+pub mod Pauses

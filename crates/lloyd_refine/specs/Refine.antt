@@ -12,7 +12,7 @@ use Rattle.slices.specs.Limit.{firstOutside, bounded}
 use Rattle.slices.specs.Lists.{tabulate, wordsOf}
 use Rattle.narrow.specs.Pack.{narrowTo}
 use Rattle.profile.specs.declared.FibQuantProfile.{FibQuantProfile}
-use Rattle.profile.specs.Valid.{validity}
+use Rattle.profile.specs.Checks.{validity}
 use Rattle.rotation.specs.Apply.{appliedAt}
 use Rattle.lloyd_search.specs.Distance.{rowOf}
 use Rattle.lloyd_search.specs.Nearest.{meanError}

@@ -8,7 +8,7 @@ use lib.Ieee.Scale.{finite}
 use Rattle.error.specs.Names.{mseSite, repairCountSite, settingsSite}
 use Rattle.error.specs.Numbers.{Outcome, completed, refused, refusal, whole}
 use Rattle.profile.specs.declared.FibQuantProfile.{FibQuantProfile}
-use Rattle.profile.specs.Tests.{ascii, sameBytes}
+use Rattle.profile.specs.Fields.{ascii, sameBytes}
 use Rattle.lloyd_refine.specs.declared.LloydReport.{LloydReport}
 use Rattle.lloyd_refine.specs.declared.Refinement.{Refinement}
 use Rattle.lloyd_refine.specs.declared.Refinement.the-variants.{Report, Refused}

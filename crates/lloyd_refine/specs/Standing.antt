@@ -77,8 +77,8 @@ pub record Ended (j : Job) (events : List LloydRepairEvent) (work : List Float) 
   pub early : s .begun ≡ false → (u : Unit) → refineChecks j ≡ completed u → ⊥
 
 -- either
-abbrev pub Progress : Job → List LloydRepairEvent → List Float → List ℕ → RefineStep → Type 0
-Progress j events work ints s = (s .going ≡ true → Going j events work ints s) × (s .going ≡ false → Ended j events work s)
+abbrev pub RefineProgress : Job → List LloydRepairEvent → List Float → List ℕ → RefineStep → Type 0
+RefineProgress j events work ints s = (s .going ≡ true → Going j events work ints s) × (s .going ≡ false → Ended j events work s)
 
 -- what a job was called with
 pub record Matches (j : Job) (p : FibQuantProfile) (start xs ms : List Float) (most : ℕ) : Type 0 where
@@ -89,7 +89,7 @@ pub record Matches (j : Job) (p : FibQuantProfile) (start xs ms : List Float) (m
   pub slots : j .slots ≡ most
 
 -- some refinement is going on
-pub record Ready (p : FibQuantProfile) (initial samples matrices : List Float) (slots : ℕ) (work : List Float) (ints : List ℕ) (s : RefineStep) : Type 0 where
+pub record ReadyRefine (p : FibQuantProfile) (initial samples matrices : List Float) (slots : ℕ) (work : List Float) (ints : List ℕ) (s : RefineStep) : Type 0 where
   pub job : Job
   pub events : List LloydRepairEvent
   pub matches : Matches job p initial samples matrices slots

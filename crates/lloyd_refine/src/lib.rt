@@ -11,7 +11,7 @@ ghost use Rattle.ieee.specs.Sum.{plusZero};
 ghost use Rattle.slices.specs.Limit.{firstOutside, bounded};
 ghost use Rattle.slices.specs.Lists.{tabulate, patched};
 ghost use Rattle.narrow.specs.Pack.{narrowTo};
-ghost use Rattle.profile.specs.Facts.{Valid};
+ghost use Rattle.profile.specs.Valid.{Valid};
 ghost use Rattle.lloyd_search.specs.Distance.{rowOf};
 ghost use Rattle.lloyd_search.specs.Nearest.{meanError};
 ghost use Rattle.lloyd_events.specs.declared.LloydRepairEvent.{LloydRepairEvent};
@@ -20,7 +20,7 @@ ghost use Rattle.lloyd_cells.specs.Repair.{Repaired};
 ghost use Rattle.lloyd_refine.specs.Refine.{Job, Best, Trained, refineLimit, lengthChecks, refineChecks};
 ghost use Rattle.lloyd_refine.specs.Report.{sameSettings, reportTest};
 ghost use Rattle.lloyd_refine.specs.Standing.{jobOf, InRound, Matches};
-ghost use Rattle.lloyd_refine.specs.Steps.{isReport, reportIn, withBest, Paused, Stands, ReadyIn};
+ghost use Rattle.lloyd_refine.specs.Pauses.{isReport, reportIn, withBest, Paused, Pausing, ReadyIn};
 use error::Checked;
 use error::Refusal;
 use error::names;
@@ -256,7 +256,7 @@ pub fn repair_on(
     s: RefineState,
 ) -> Pause
     requires { ⌜ ReadyIn profile (now samples) slots (now work) (now ints) s ⌝ }
-    ensures stands { λ p. ⌜ ((j : Job) (b : Best) (t : Trained) (u : Repaired) → Matches j profile (j .initial) (now (samples .entry)) (j .matrices) slots → InRound j b t u s (now (work .entry)) (now (ints .entry)) → Stands j (t .events ++ u .events) (now (work .exit)) (now (ints .exit)) p) ⌝ }
+    ensures stands { λ p. ⌜ ((j : Job) (b : Best) (t : Trained) (u : Repaired) → Matches j profile (j .initial) (now (samples .entry)) (j .matrices) slots → InRound j b t u s (now (work .entry)) (now (ints .entry)) → Pausing j (t .events ++ u .events) (now (work .exit)) (now (ints .exit)) p) ⌝ }
     ensures round { λ p. ⌜ (p .step .state .restart ≡ s .restart) × (p .step .state .iteration ≡ s .iteration) ⌝ }
 {
     let n = profile.codebook_size as usize;

@@ -57,7 +57,7 @@ pub record Running (p : Places) (m : Numbers) (t : Terms) (samples : List Float)
   pub farthest : (c : ℕ) → c < t .cells → 1 < r .cells .tally c → HoldsFarthest m (t .dim) samples (far c) c work ints
 
 -- some repairs are under way
-pub record Ready (p : Places) (m : Numbers) (t : Terms) (samples : List Float) (used next : ℕ) (work : List Float) (ints : List ℕ) : Type 0 where
+pub record ReadyRepairs (p : Places) (m : Numbers) (t : Terms) (samples : List Float) (used next : ℕ) (work : List Float) (ints : List ℕ) : Type 0 where
   pub far : ℕ → ℕ → Float
   pub start : Cells
   pub r : Repaired

@@ -6,7 +6,7 @@ ghost use lib.ListN.{length, getD};
 ghost use lib.Ieee.{Float, nan};
 ghost use Rattle.lloyd_cells.specs.Repair.{Cells, Repaired, eventOf};
 ghost use Rattle.lloyd_cells.specs.Work.{Fit, Kept, splitWork, splitCounts};
-ghost use Rattle.lloyd_repair.specs.Running.{termsOf, cellsIn, Numbered, NumberIs, Running, Ready, Chosen, Turned, BehindKept};
+ghost use Rattle.lloyd_repair.specs.Running.{termsOf, cellsIn, Numbered, NumberIs, Running, ReadyRepairs, Chosen, Turned, BehindKept};
 use error::Refusal;
 use lloyd_cells::Places;
 use lloyd_events::LloydRepairEvent;
@@ -109,7 +109,7 @@ fn repair_from(
     donor: usize,
     used: usize,
 ) -> Turn
-    requires ready { ⌜ Ready p m (termsOf t) (now samples) used e (now work) (now ints) ⌝ }
+    requires ready { ⌜ ReadyRepairs p m (termsOf t) (now samples) used e (now work) (now ints) ⌝ }
     requires chosen { ⌜ Chosen p (termsOf t) e donor (now work) (now ints) ⌝ }
     ensures turned { λ o. ⌜ ((far : ℕ → ℕ → Float) (start : Cells) (r : Repaired) → length (r .events) ≡ used → Running p m (termsOf t) (now (samples .entry)) far start e r (now (work .entry)) (now (ints .entry)) → Turned p m (termsOf t) (now (samples .entry)) far start r (now (work .exit)) (now (ints .exit)) o) ⌝ }
     ensures kept { λ o. ⌜ Kept p (t .cells) (t .dim) (now (work .entry)) (now (work .exit)) ⌝ }
@@ -146,7 +146,7 @@ pub fn repair_next(
     from: usize,
     used: usize,
 ) -> Turn
-    requires { ⌜ Ready p m (termsOf t) (now samples) used from (now work) (now ints) ⌝ }
+    requires { ⌜ ReadyRepairs p m (termsOf t) (now samples) used from (now work) (now ints) ⌝ }
     ensures turned { λ o. ⌜ ((far : ℕ → ℕ → Float) (start : Cells) (r : Repaired) → length (r .events) ≡ used → Running p m (termsOf t) (now (samples .entry)) far start from r (now (work .entry)) (now (ints .entry)) → Turned p m (termsOf t) (now (samples .entry)) far start r (now (work .exit)) (now (ints .exit)) o) ⌝ }
     ensures kept { λ o. ⌜ Kept p (t .cells) (t .dim) (now (work .entry)) (now (work .exit)) ⌝ }
     ensures ints { λ o. ⌜ BehindKept (t .cells) (now (ints .entry)) (now (ints .exit)) ⌝ }

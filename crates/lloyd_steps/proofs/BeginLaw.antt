@@ -21,8 +21,8 @@ use Rattle.lloyd_refine.specs.declared.Refinement.the-variants.{Refused}
 use Rattle.lloyd_refine.specs.declared.RefineStep.{RefineStep}
 use Rattle.lloyd_refine.specs.Refine.{Job, sizeOf, dimOf, refineChecks, startOf, trainedFrom, errorOf, Best, startBest, restartsTo, refineOf, refinement}
 use Rattle.lloyd_refine.specs.Report.{refinementOf, reportOf}
-use Rattle.lloyd_refine.specs.Standing.{Progress}
-use Rattle.lloyd_steps.specs.Rounds.{firstState, AtRound}
+use Rattle.lloyd_refine.specs.Standing.{RefineProgress}
+use Rattle.lloyd_steps.specs.Steps.{firstState, AtRound}
 use Rattle.lloyd_refine.proofs.CheckLaw.{checks-passed}
 use Rattle.lloyd_refine.proofs.TurnLaw.{report-refused}
 use Rattle.lloyd_steps.proofs.RestartLaw.{measured, Kept, starts}
@@ -73,7 +73,7 @@ module _ (j : Job) (checked : refineChecks j ≡ completed tt) (work one two : L
 
 -- ---- refused by a check
 module _ (j : Job) (events : List LloydRepairEvent) (work : List Float) (ints : List ℕ) (s : RefineStep) where
-  pub unchecked : (x : Refusal) → s .going ≡ false → s .begun ≡ false → s .answer ≡ Refused x → refusal x ≡ refineChecks j → Progress j events work ints s
+  pub unchecked : (x : Refusal) → s .going ≡ false → s .begun ≡ false → s .answer ≡ Refused x → refusal x ≡ refineChecks j → RefineProgress j events work ints s
   unchecked x g b a e =
       let is : refinement j ≡ refusal x = ap (λ (o : Outcome Unit). andThen o (λ u. refineOf j)) (sym e) ∙ by-refusal (λ (q : Outcome Unit) (p : Outcome Best). andThen q (λ u. refineOf j) ≡ p) (λ n vs. refl) x in (
         λ z. absurd (true≢false (sym z ∙ g)),
@@ -86,7 +86,7 @@ module _ (j : Job) (events : List LloydRepairEvent) (work : List Float) (ints : 
       )
 
   -- a refinement that has passed its checks has begun
-  pub has-begun : Progress j events work ints s → refineChecks j ≡ completed tt → s .begun ≡ false → ⊥
+  pub has-begun : RefineProgress j events work ints s → refineChecks j ≡ completed tt → s .begun ≡ false → ⊥
   has-begun p k b = go (s .going) refl
     where
       go : (t : Bool) → s .going ≡ t → ⊥

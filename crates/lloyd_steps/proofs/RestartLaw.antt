@@ -24,9 +24,9 @@ use Rattle.lloyd_refine.specs.declared.RefineState.{RefineState}
 use Rattle.lloyd_refine.specs.declared.RefineStep.{RefineStep}
 use Rattle.lloyd_refine.specs.Refine.{Job, sizeOf, dimOf, countOf, restartsOf, iterationsOf, refineChecks, Trained, roundsTo, matrixOf, initialWord, rotated, startOf, trainedFrom, errorOf, restart, restartOf, Best, afterRestart, restartsTo, refineOf, refinement}
 use Rattle.lloyd_refine.specs.Report.{refinementOf, reportOf}
-use Rattle.lloyd_refine.specs.Standing.{Progress}
-use Rattle.lloyd_refine.specs.Steps.{reportIn, withBest}
-use Rattle.lloyd_steps.specs.Rounds.{AtRound}
+use Rattle.lloyd_refine.specs.Standing.{RefineProgress}
+use Rattle.lloyd_refine.specs.Pauses.{reportIn, withBest}
+use Rattle.lloyd_steps.specs.Steps.{AtRound}
 use Rattle.lloyd_refine.proofs.CheckLaw.{checks-passed}
 use Rattle.lloyd_refine.proofs.EventLaw.{after-events, bests-within}
 
@@ -189,7 +189,7 @@ module _ {j : Job} {r : ℕ} {b : Best} {s : RefineState} {work : List Float} (h
 
 -- ---- the end
 module _ {j : Job} {b : Best} {s : RefineState} {work : List Float} (h : Kept j (restartsOf j) b s work) (checked : refineChecks j ≡ completed tt) where
-  pub refined : (ints : List ℕ) (p : RefineStep) → p .going ≡ false → p .begun ≡ true → p .answer ≡ Report (reportIn (j .profile) s) → Progress j (b .events) work ints p
+  pub refined : (ints : List ℕ) (p : RefineStep) → p .going ≡ false → p .begun ≡ true → p .answer ≡ Report (reportIn (j .profile) s) → RefineProgress j (b .events) work ints p
   refined ints p going begun answer =
       let is : refinement j ≡ completed b = ap (λ (o : Outcome Unit). andThen o (λ u. refineOf j)) checked ∙ h .bests in (
         λ z. absurd (true≢false (sym z ∙ going)),

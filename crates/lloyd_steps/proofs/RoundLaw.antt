@@ -24,7 +24,7 @@ use Rattle.lloyd_round.specs.Round.{placesOf, numbersOf, Holding, Roomy, AtFirs
 use Rattle.lloyd_refine.specs.declared.RefineState.{RefineState}
 use Rattle.lloyd_refine.specs.Refine.{Job, sizeOf, dimOf, countOf, iterationsOf, roundTerms, roundOf, Trained, afterRound, roundsTo, trainedFrom, Best}
 use Rattle.lloyd_refine.specs.Standing.{roundMeans, roundFar, InRound}
-use Rattle.lloyd_steps.specs.Rounds.{AtRound}
+use Rattle.lloyd_steps.specs.Steps.{AtRound}
 use Rattle.lloyd_refine.proofs.CheckLaw.{checks-passed}
 
 -- ---- the policy for empty cells

@@ -10,9 +10,9 @@ ghost use Rattle.ieee.specs.Sum.{plusZero};
 ghost use Rattle.lloyd_events.specs.declared.LloydRepairEvent.{LloydRepairEvent};
 ghost use Rattle.lloyd_events.specs.Events.{zeroEvent};
 ghost use Rattle.lloyd_refine.specs.Refine.{Job, Best, Trained, refineChecks};
-ghost use Rattle.lloyd_refine.specs.Standing.{jobOf, Going, Progress, Matches, Ready};
-ghost use Rattle.lloyd_refine.specs.Steps.{Over, Stands};
-ghost use Rattle.lloyd_steps.specs.Rounds.{roundsLeft, firstState, AtRound, ReadyRound, ReadyOver, ReadyEnd, ReadyPause, ReadyJob};
+ghost use Rattle.lloyd_refine.specs.Standing.{jobOf, Going, RefineProgress, Matches, ReadyRefine};
+ghost use Rattle.lloyd_refine.specs.Pauses.{Over, Pausing};
+ghost use Rattle.lloyd_steps.specs.Steps.{roundsLeft, firstState, AtRound, ReadyRound, ReadyOver, ReadyEnd, ReadyPause, ReadyJob};
 use error::Checked;
 use error::Refusal;
 use lloyd_refine::Pause;
@@ -32,7 +32,7 @@ fn start_round(
     s: RefineState,
 ) -> Pause
     requires { ⌜ ReadyRound profile (now samples) slots (now work) (now ints) s ⌝ }
-    ensures stands { λ p. ⌜ ((j : Job) (b : Best) (t : Trained) → Matches j profile (j .initial) (now (samples .entry)) (j .matrices) slots → AtRound j b t s (now (work .entry)) (now (ints .entry)) → Stands j (t .events) (now (work .exit)) (now (ints .exit)) p) ⌝ }
+    ensures stands { λ p. ⌜ ((j : Job) (b : Best) (t : Trained) → Matches j profile (j .initial) (now (samples .entry)) (j .matrices) slots → AtRound j b t s (now (work .entry)) (now (ints .entry)) → Pausing j (t .events) (now (work .exit)) (now (ints .exit)) p) ⌝ }
     ensures round { λ p. ⌜ (p .step .state .restart ≡ s .restart) × (p .step .state .iteration ≡ s .iteration) ⌝ }
 {
     let n = profile.codebook_size as usize;
@@ -63,7 +63,7 @@ fn next_restart(
     s: RefineState,
 ) -> Pause
     requires { ⌜ ReadyEnd profile (now initial) (now samples) (now matrices) slots (now work) (now ints) s ⌝ }
-    ensures stands { λ p. ⌜ ((j : Job) (b : Best) (t : Trained) → Matches j profile (now (initial .entry)) (now (samples .entry)) (now (matrices .entry)) slots → AtRound j b t s (now (work .entry)) (now (ints .entry)) → Stands j (t .events) (now (work .exit)) (now (ints .exit)) p) ⌝ }
+    ensures stands { λ p. ⌜ ((j : Job) (b : Best) (t : Trained) → Matches j profile (now (initial .entry)) (now (samples .entry)) (now (matrices .entry)) slots → AtRound j b t s (now (work .entry)) (now (ints .entry)) → Pausing j (t .events) (now (work .exit)) (now (ints .exit)) p) ⌝ }
     ensures next { λ p. ⌜ (p .over ≡ true → (p .step .state .restart ≡ s .restart + 1) × (p .step .state .iteration ≡ 0)) ⌝ }
 {
     let n = profile.codebook_size as usize;
@@ -96,7 +96,7 @@ fn next_round(
     s: RefineState,
 ) -> Pause
     requires { ⌜ ReadyOver profile (now initial) (now samples) (now matrices) slots (now work) (now ints) s ⌝ }
-    ensures stands { λ p. ⌜ ((j : Job) (events : List LloydRepairEvent) → Matches j profile (now (initial .entry)) (now (samples .entry)) (now (matrices .entry)) slots → Over j events (now (work .entry)) (now (ints .entry)) s → Stands j events (now (work .exit)) (now (ints .exit)) p) ⌝ }
+    ensures stands { λ p. ⌜ ((j : Job) (events : List LloydRepairEvent) → Matches j profile (now (initial .entry)) (now (samples .entry)) (now (matrices .entry)) slots → Over j events (now (work .entry)) (now (ints .entry)) s → Pausing j events (now (work .exit)) (now (ints .exit)) p) ⌝ }
     ensures falls { λ p. ⌜ (p .over ≡ true → roundsLeft profile (p .step .state) < roundsLeft profile s) ⌝ }
 {
     let values = profile.codebook_size as usize * profile.block_dim as usize;
@@ -125,7 +125,7 @@ fn advance(
     p: Pause,
 ) -> RefineStep
     requires { ⌜ ReadyPause profile (now initial) (now samples) (now matrices) slots (now work) (now ints) p ⌝ }
-    ensures { λ s. ⌜ ((j : Job) (events : List LloydRepairEvent) → Matches j profile (now (initial .entry)) (now (samples .entry)) (now (matrices .entry)) slots → Stands j events (now (work .entry)) (now (ints .entry)) p → Progress j events (now (work .exit)) (now (ints .exit)) s) ⌝ }
+    ensures { λ s. ⌜ ((j : Job) (events : List LloydRepairEvent) → Matches j profile (now (initial .entry)) (now (samples .entry)) (now (matrices .entry)) slots → Pausing j events (now (work .entry)) (now (ints .entry)) p → RefineProgress j events (now (work .exit)) (now (ints .exit)) s) ⌝ }
 {
     let mut pause = p;
     while pause.over {
@@ -155,7 +155,7 @@ fn start_refine(
     profile: FibQuantProfile,
 ) -> Pause
     requires { ⌜ ReadyJob profile (now initial) (now samples) slots (length (now work)) (length (now ints)) ⌝ }
-    ensures { λ p. ⌜ ((j : Job) → Matches j profile (now (initial .entry)) (now (samples .entry)) (j .matrices) slots → refineChecks j ≡ completed tt → length (now (work .entry)) ≡ j .floatWork → length (now (ints .entry)) ≡ j .integerWork → Stands j [] (now (work .exit)) (now (ints .exit)) p) ⌝ }
+    ensures { λ p. ⌜ ((j : Job) → Matches j profile (now (initial .entry)) (now (samples .entry)) (j .matrices) slots → refineChecks j ≡ completed tt → length (now (work .entry)) ≡ j .floatWork → length (now (ints .entry)) ≡ j .integerWork → Pausing j [] (now (work .exit)) (now (ints .exit)) p) ⌝ }
 {
     let n = profile.codebook_size as usize;
     let k = profile.block_dim as usize;
@@ -189,7 +189,7 @@ pub fn begin_refine(
     codewords: usize,
     slots: usize,
 ) -> RefineStep
-    ensures progress { λ s. ⌜ Progress (jobOf profile (now (schema .entry)) (now («rotation_algorithm» .entry)) log2 (now (initial .entry)) (now (samples .entry)) (now (matrices .entry)) codewords (length (now (work .entry))) (length (now (ints .entry))) slots) [] (now (work .exit)) (now (ints .exit)) s ⌝ }
+    ensures progress { λ s. ⌜ RefineProgress (jobOf profile (now (schema .entry)) (now («rotation_algorithm» .entry)) log2 (now (initial .entry)) (now (samples .entry)) (now (matrices .entry)) codewords (length (now (work .entry))) (length (now (ints .entry))) slots) [] (now (work .exit)) (now (ints .exit)) s ⌝ }
     ensures early { λ s. ⌜ (s .begun ≡ false → (now (work .exit) ≡ now (work .entry)) × (now (ints .exit) ≡ now (ints .entry))) ⌝ }
 {
     let checked = lloyd_refine::check_refine(
@@ -240,8 +240,8 @@ pub fn next_refine(
     profile: FibQuantProfile,
     s: RefineStep,
 ) -> RefineStep
-    requires { ⌜ Ready profile (now initial) (now samples) (now matrices) slots (now work) (now ints) s ⌝ }
-    ensures { λ s'. ⌜ ((j : Job) (events : List LloydRepairEvent) → Matches j profile (now (initial .entry)) (now (samples .entry)) (now (matrices .entry)) slots → Going j events (now (work .entry)) (now (ints .entry)) s → Progress j (events ++ (s .event ∷ [])) (now (work .exit)) (now (ints .exit)) s') ⌝ }
+    requires { ⌜ ReadyRefine profile (now initial) (now samples) (now matrices) slots (now work) (now ints) s ⌝ }
+    ensures { λ s'. ⌜ ((j : Job) (events : List LloydRepairEvent) → Matches j profile (now (initial .entry)) (now (samples .entry)) (now (matrices .entry)) slots → Going j events (now (work .entry)) (now (ints .entry)) s → RefineProgress j (events ++ (s .event ∷ [])) (now (work .exit)) (now (ints .exit)) s') ⌝ }
 {
     let state = s.state;
     let p = lloyd_refine::repair_on(samples, &mut *work, &mut *ints, slots, profile, state);

@@ -29,7 +29,7 @@ use Rattle.lloyd_repair.specs.Running.{HoldsFarthest, Running}
 use Rattle.lloyd_update.specs.declared.Updated.the-variants as updated
 use Rattle.lloyd_update.specs.declared.Step.{Step}
 use Rattle.lloyd_update.specs.Alone.{Call, termsOf, updateChecks, updateOf, updateAlone}
-use Rattle.lloyd_update.specs.Progress.{placesOf, numbersOf, updatedOf, samplesOf, sampleOf, cellOf, oldWordOf, startOf, farOf, distanceOf, Added, Addable, Progress}
+use Rattle.lloyd_update.specs.Progress.{placesOf, numbersOf, updatedOf, samplesOf, sampleOf, cellOf, oldWordOf, startCells, farOf, distanceOf, Added, Addable, UpdateProgress}
 use Rattle.lloyd_update.proofs.CheckLaw.{Passed}
 use Rattle.lloyd_update.proofs.AddLaw.{shape, numbers-room}
 use Rattle.lloyd_update.proofs.RepairsLaw.{not-completed, eventCount, count-refused}
@@ -82,7 +82,7 @@ module _ (c : Call) (work : List Float) (counts : List ℕ) (L : ℕ) (some : 0 
 -- ---- the means
 -- no repair has been made yet
 abbrev pub unrepaired : Call → Repaired
-unrepaired c = record { cells = startOf c; events = [] }
+unrepaired c = record { cells = startCells c; events = [] }
 
 module _ (c : Call) (passed : Passed c) (work : List Float) (counts : List ℕ) (added : Added c (length (c .assignments)) work counts)
     (floats : length work ≡ 2 * (c .size * c .dim) + 2 * c .size) (integers : length counts ≡ c .size)
@@ -99,9 +99,9 @@ module _ (c : Call) (passed : Passed c) (work : List Float) (counts : List ℕ) 
   after-size : length after ≡ length work
   after-size = ap length is-means ∙ means-kept (placesOf (c .size) (c .dim)) (c .size) (c .dim) counts work .size
 
-  held : Held (placesOf (c .size) (c .dim)) (c .size) (c .dim) (startOf c) after counts
+  held : Held (placesOf (c .size) (c .dim)) (c .size) (c .dim) (startCells c) after counts
   held =
-      subst (λ (w : List Float). Held (placesOf (c .size) (c .dim)) (c .size) (c .dim) (startOf c) w counts) (sym is-means)
+      subst (λ (w : List Float). Held (placesOf (c .size) (c .dim)) (c .size) (c .dim) (startCells c) w counts) (sym is-means)
       (held-means (placesOf (c .size) (c .dim)) (c .size) (c .dim) (samplesOf c) (sampleOf c) (cellOf c) (oldWordOf c) work counts fit (all-added .gathered))
 
   number : (i : ℕ) → i < c .size → getD after (c .size * c .dim + i) nan ≡ ofInt binary64 (pos (farthest (cellOf c) (distanceOf c) i (samplesOf c) .sample))
@@ -111,7 +111,7 @@ module _ (c : Call) (passed : Passed c) (work : List Float) (counts : List ℕ) 
       ∙ means-kept (placesOf (c .size) (c .dim)) (c .size) (c .dim) counts work .between (c .size * c .dim + i) (omega arith) (omega arith)
       ∙ all-added .numbers i l
 
-  farthest-held : (i : ℕ) → i < c .size → 1 < startOf c .tally i → HoldsFarthest (numbersOf (c .size) (c .dim)) (c .dim) (c .samples) (farOf c i) i after counts
+  farthest-held : (i : ℕ) → i < c .size → 1 < startCells c .tally i → HoldsFarthest (numbersOf (c .size) (c .dim)) (c .dim) (c .samples) (farOf c i) i after counts
   farthest-held i l h =
       let some : 1 ≤ samplesOf c = omega (arith, countTo-upto (cellOf c) i (samplesOf c)) in
       let w = farthest-within (cellOf c) (distanceOf c) i (samplesOf c) some in
@@ -122,7 +122,7 @@ module _ (c : Call) (passed : Passed c) (work : List Float) (counts : List ℕ) 
         is = λ j m. refl;
       }
 
-  pub ready : Running (placesOf (c .size) (c .dim)) (numbersOf (c .size) (c .dim)) (termsOf c) (c .samples) (farOf c) (startOf c) 0 (unrepaired c) after counts
+  pub ready : Running (placesOf (c .size) (c .dim)) (numbersOf (c .size) (c .dim)) (termsOf c) (c .samples) (farOf c) (startCells c) 0 (unrepaired c) after counts
   unfolding repairTo
   ready = record {
     fit = subst (λ (z : ℕ). Fit (placesOf (c .size) (c .dim)) (c .size) (c .dim) z) (sym after-size) fit;
@@ -136,34 +136,34 @@ module _ (c : Call) (passed : Passed c) (work : List Float) (counts : List ℕ) 
   }
 
   -- the empty cells are counted in the work
-  pub counted : (empty : ℕ) → empty ≡ countTo (λ i. getD counts i 0) 0 (length counts) → empty ≡ emptyCells (startOf c .tally) (c .size)
+  pub counted : (empty : ℕ) → empty ≡ countTo (λ i. getD counts i 0) 0 (length counts) → empty ≡ emptyCells (startCells c .tally) (c .size)
   counted empty e =
-      e ∙ ap (countTo (λ i. getD counts i 0) 0) integers ∙ countTo-ext (λ i. getD counts i 0) (startOf c .tally) 0 (c .size) (held .tally)
+      e ∙ ap (countTo (λ i. getD counts i 0) 0) integers ∙ countTo-ext (λ i. getD counts i 0) (startCells c .tally) 0 (c .size) (held .tally)
 
 -- ---- the policy for empty cells
 module _ (c : Call) where
-  pub split-repairs : c .policy ≡ SplitHighestDistortion → updateOf c ≡ repairTo (termsOf c) (farOf c) (startOf c) (c .size)
+  pub split-repairs : c .policy ≡ SplitHighestDistortion → updateOf c ≡ repairTo (termsOf c) (farOf c) (startCells c) (c .size)
   unfolding updated
   split-repairs h = rw h
 
-  none-empty : emptyCells (startOf c .tally) (c .size) ≤ 0 → c .policy ≡ FailClosed → updateOf c ≡ repairTo (termsOf c) (farOf c) (startOf c) (c .size)
+  none-empty : emptyCells (startCells c .tally) (c .size) ≤ 0 → c .policy ≡ FailClosed → updateOf c ≡ repairTo (termsOf c) (farOf c) (startCells c) (c .size)
   unfolding updated
-  none-empty l h = rw (h, le-ltb 0 (emptyCells (startOf c .tally) (c .size)) l)
+  none-empty l h = rw (h, le-ltb 0 (emptyCells (startCells c .tally) (c .size)) l)
 
-  some-empty : 0 < emptyCells (startOf c .tally) (c .size) → c .policy ≡ FailClosed → updateOf c ≡ refused 14 (whole (emptyCells (startOf c .tally) (c .size)) ∷ [])
+  some-empty : 0 < emptyCells (startCells c .tally) (c .size) → c .policy ≡ FailClosed → updateOf c ≡ refused 14 (whole (emptyCells (startCells c .tally) (c .size)) ∷ [])
   unfolding updated
-  some-empty l h = rw (h, lt-ltb 0 (emptyCells (startOf c .tally) (c .size)) l)
+  some-empty l h = rw (h, lt-ltb 0 (emptyCells (startCells c .tally) (c .size)) l)
 
-  pub closed-repairs : (empty : ℕ) → empty ≡ emptyCells (startOf c .tally) (c .size) → empty ≤ 0 → c .policy ≡ FailClosed → updateOf c ≡ repairTo (termsOf c) (farOf c) (startOf c) (c .size)
+  pub closed-repairs : (empty : ℕ) → empty ≡ emptyCells (startCells c .tally) (c .size) → empty ≤ 0 → c .policy ≡ FailClosed → updateOf c ≡ repairTo (termsOf c) (farOf c) (startCells c) (c .size)
   closed-repairs empty e l h = none-empty (subst (λ (z : ℕ). z ≤ 0) e l) h
 
-  pub closed-refuses : (empty : ℕ) → empty ≡ emptyCells (startOf c .tally) (c .size) → 0 < empty → c .policy ≡ FailClosed → updateOf c ≡ refused 14 (whole empty ∷ [])
+  pub closed-refuses : (empty : ℕ) → empty ≡ emptyCells (startCells c .tally) (c .size) → 0 < empty → c .policy ≡ FailClosed → updateOf c ≡ refused 14 (whole empty ∷ [])
   closed-refuses empty e l h = some-empty (subst (λ (z : ℕ). 0 < z) e l) h ∙ ap (λ (z : ℕ). refused 14 (whole z ∷ [])) (sym e)
 
 -- ---- what the update has come to
 module _ (c : Call) (events : List LloydRepairEvent) (work : List Float) (counts : List ℕ) (s : Step) where
   -- refused by a check
-  pub unchecked : (x : Refusal) → s .going ≡ false → s .begun ≡ false → s .answer ≡ updated.Refused x → refusal x ≡ updateChecks c → Progress c events work counts s
+  pub unchecked : (x : Refusal) → s .going ≡ false → s .begun ≡ false → s .answer ≡ updated.Refused x → refusal x ≡ updateChecks c → UpdateProgress c events work counts s
   unchecked x g b a e =
       let alone : updateAlone c ≡ refusal x =
       ap (λ (o : Outcome Unit). andThen o (λ u. updateOf c)) (sym e) ∙ by-refusal (λ (q : Outcome Unit) (p : Outcome Repaired). andThen q (λ u. updateOf c) ≡ p) (λ n vs. refl) x in (
@@ -177,7 +177,7 @@ module _ (c : Call) (events : List LloydRepairEvent) (work : List Float) (counts
       )
 
   -- an update that has passed its checks has begun
-  pub has-begun : Progress c events work counts s → updateChecks c ≡ completed tt → s .begun ≡ false → ⊥
+  pub has-begun : UpdateProgress c events work counts s → updateChecks c ≡ completed tt → s .begun ≡ false → ⊥
   has-begun p k b = go (s .going) refl
     where
       go : (t : Bool) → s .going ≡ t → ⊥

@@ -16,7 +16,7 @@ use Rattle.slices.proofs.FirstLaw.{none-before}
 use Rattle.lloyd_search.specs.Shape.{codebookShaped, samplesShaped}
 use Rattle.lloyd_search.proofs.ShapeLaw.{Codebook, Samples, codebook-shape, samples-shape}
 use Rattle.lloyd_search.proofs.LimitLaw.{passed-bounded}
-use Rattle.lloyd_update.specs.Alone.{Call, updateLimit, assigned, valueChecks, updateChecks}
+use Rattle.lloyd_update.specs.Alone.{Call, updateLimit, onlyCells, valueChecks, updateChecks}
 
 pub record Passed (c : Call) : Type 0 where
   pub book : Codebook (c .size) (c .dim) (length (c .codebook))
@@ -29,7 +29,7 @@ pub record Passed (c : Call) : Type 0 where
   pub samples-within : firstOutside updateLimit (c .samples) ≡ Nowhere
   pub cells : (s : ℕ) → s < length (c .assignments) → getD (c .assignments) s 0 < c .size
 
-all-assigned : (cells : List ℕ) (n : ℕ) (f : First) → assigned cells n f ≡ completed tt → f ≡ Nowhere
+all-assigned : (cells : List ℕ) (n : ℕ) (f : First) → onlyCells cells n f ≡ completed tt → f ≡ Nowhere
 all-assigned cells n Nowhere e = refl
 all-assigned cells n (At s) e = absurd (never 11 _ tt e)
 

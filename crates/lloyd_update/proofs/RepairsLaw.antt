@@ -28,7 +28,7 @@ use Rattle.lloyd_update.specs.declared.Updated.the-variants as updated
 use Rattle.lloyd_update.specs.declared.UpdateTerms.{UpdateTerms}
 use Rattle.lloyd_update.specs.declared.Step.{Step}
 use Rattle.lloyd_update.specs.Alone.{Call, termsOf, updateChecks, updateOf, updateAlone}
-use Rattle.lloyd_update.specs.Progress.{placesOf, numbersOf, updatedOf, startOf, farOf, Under, Progress, Matches, Ready, ReadyAt}
+use Rattle.lloyd_update.specs.Progress.{placesOf, numbersOf, updatedOf, startCells, farOf, Under, UpdateProgress, Matches, ReadyUpdate, ReadyAt}
 use Rattle.lloyd_update.proofs.CheckLaw.{checks-passed}
 use Rattle.lloyd_update.proofs.AddLaw.{places-small}
 
@@ -44,7 +44,7 @@ count-refused x = by-refusal (λ (q : Outcome Repaired) (p : Outcome ℕ). p ≡
 
 -- an update that is refused once its checks are passed
 pub not-repaired : (c : Call) (events : List LloydRepairEvent) (work : List Float) (counts : List ℕ) (s : Step) (x : Refusal) → s .going ≡ false → s .begun ≡ true → s .answer ≡ updated.Refused x
-    → updateChecks c ≡ completed tt → updateOf c ≡ refusal x → Progress c events work counts s
+    → updateChecks c ≡ completed tt → updateOf c ≡ refusal x → UpdateProgress c events work counts s
 not-repaired c events work counts s x g b a k e =
     let alone : updateAlone c ≡ refusal x = ap (λ (o : Outcome Unit). andThen o (λ u. updateOf c)) k ∙ e in (
       λ z. absurd (true≢false (sym z ∙ g)),
@@ -115,12 +115,12 @@ module _ {c : Call} {t : UpdateTerms} {xs : List Float} {slots : ℕ} (same : Ma
 
   module _ (p : Places) (is-p : p ≡ placesOf (t .«codebook_size») (t .«block_dim»)) where
     pub to-turn : {next : ℕ} {r : Repaired} {work : List Float} {ints : List ℕ} → Under c next r work ints
-        → Running p (numbersOf (t .«codebook_size») (t .«block_dim»)) (running.termsOf (repairTerms t slots)) xs (farOf c) (startOf c) next r work ints
-    to-turn {next} {r} {work} {ints} h = same-run (farOf c) (startOf c) r work ints (sym (same-places p is-p)) (sym same-numbers) (sym same-terms) (same .samples) next (h .running)
+        → Running p (numbersOf (t .«codebook_size») (t .«block_dim»)) (running.termsOf (repairTerms t slots)) xs (farOf c) (startCells c) next r work ints
+    to-turn {next} {r} {work} {ints} h = same-run (farOf c) (startCells c) r work ints (sym (same-places p is-p)) (sym same-numbers) (sym same-terms) (same .samples) next (h .running)
 
-    pub of-turn : (r : Repaired) (work : List Float) (ints : List ℕ) (o : Turn) → Turned p (numbersOf (t .«codebook_size») (t .«block_dim»)) (running.termsOf (repairTerms t slots)) xs (farOf c) (startOf c) r work ints o
-        → Turned (placesOf (c .size) (c .dim)) (numbersOf (c .size) (c .dim)) (termsOf c) (c .samples) (farOf c) (startOf c) r work ints o
-    of-turn r work ints o h = same-turn (farOf c) (startOf c) r work ints (same-places p is-p) same-numbers same-terms (sym (same .samples)) o h
+    pub of-turn : (r : Repaired) (work : List Float) (ints : List ℕ) (o : Turn) → Turned p (numbersOf (t .«codebook_size») (t .«block_dim»)) (running.termsOf (repairTerms t slots)) xs (farOf c) (startCells c) r work ints o
+        → Turned (placesOf (c .size) (c .dim)) (numbersOf (c .size) (c .dim)) (termsOf c) (c .samples) (farOf c) (startCells c) r work ints o
+    of-turn r work ints o h = same-turn (farOf c) (startCells c) r work ints (same-places p is-p) same-numbers same-terms (sym (same .samples)) o h
 
 module _ {t : UpdateTerms} {xs : List Float} {slots used : ℕ} {work : List Float} {counts : List ℕ} {from : ℕ} (h : ReadyAt t xs slots used work counts from) where
   pub ready-small : 2 * (t .«codebook_size» * t .«block_dim») + t .«codebook_size» < 0x1_0000_0000_0000
@@ -131,28 +131,28 @@ module _ {t : UpdateTerms} {xs : List Float} {slots used : ℕ} {work : List Flo
   pub used-small : used ≤ 1048576
   used-small =
       let r = h .under .running in
-      omega (arith, h .used, events-upto (termsOf (h .call)) (farOf (h .call)) (startOf (h .call)) from (h .r) (r .reached) (r .came), r .reached, r .small)
+      omega (arith, h .used, events-upto (termsOf (h .call)) (farOf (h .call)) (startCells (h .call)) from (h .r) (r .reached) (r .came), r .reached, r .small)
 
   pub turn-ready : (p : Places) → p ≡ placesOf (t .«codebook_size») (t .«block_dim») → running.Ready p (numbersOf (t .«codebook_size») (t .«block_dim»)) (running.termsOf (repairTerms t slots)) xs used from work counts
-  turn-ready p e = record { far = farOf (h .call); start = startOf (h .call); r = h .r; events = sym (h .used); running = to-turn (h .matches) p e (h .under) }
+  turn-ready p e = record { far = farOf (h .call); start = startCells (h .call); r = h .r; events = sym (h .used); running = to-turn (h .matches) p e (h .under) }
 
 -- ---- what an update has come to after a turn
 module _ {c : Call} {from : ℕ} {r : Repaired} {before : List Float} {earlier : List ℕ} (h : Under c from r before earlier) (work : List Float) (counts : List ℕ) where
   pub goes-on : (s : Step) → s .going ≡ true → s .begun ≡ true
-      → Turned (placesOf (c .size) (c .dim)) (numbersOf (c .size) (c .dim)) (termsOf c) (c .samples) (farOf c) (startOf c) r work counts (Repair (s .event) (s .next)) → Progress c (r .events) work counts s
+      → Turned (placesOf (c .size) (c .dim)) (numbersOf (c .size) (c .dim)) (termsOf c) (c .samples) (farOf c) (startCells c) r work counts (Repair (s .event) (s .next)) → UpdateProgress c (r .events) work counts s
   goes-on s g b o = (
     λ z. record {
       r = o .after;
       under = record { checked = h .checked; repairs = h .repairs; running = o .running };
       last = o .event;
-      room = omega (arith, events-within (termsOf c) (farOf c) (startOf c) (s .next) (o .after) (o .running .came), ap length (o .event), length-append (r .events) (s .event ∷ []));
+      room = omega (arith, events-within (termsOf c) (farOf c) (startCells c) (s .next) (o .after) (o .running .came), ap length (o .event), length-append (r .events) (s .event ∷ []));
       begun = b;
     },
     λ z. absurd (true≢false (sym g ∙ z)),
   )
 
   pub all-done : (s : Step) (used : ℕ) → s .going ≡ false → s .begun ≡ true → s .answer ≡ updated.Repairs used → used ≡ length (r .events)
-      → Turned (placesOf (c .size) (c .dim)) (numbersOf (c .size) (c .dim)) (termsOf c) (c .samples) (farOf c) (startOf c) r work counts Done → Progress c (r .events) work counts s
+      → Turned (placesOf (c .size) (c .dim)) (numbersOf (c .size) (c .dim)) (termsOf c) (c .samples) (farOf c) (startCells c) r work counts Done → UpdateProgress c (r .events) work counts s
   all-done s used g b a n o =
       let is : updateAlone c ≡ completed r = ap (λ (q : Outcome Unit). andThen q (λ u. updateOf c)) (h .checked) ∙ h .repairs ∙ o .0 in (
         λ z. absurd (true≢false (sym z ∙ g)),
@@ -167,11 +167,11 @@ module _ {c : Call} {from : ℕ} {r : Repaired} {before : List Float} {earlier :
       )
 
   pub is-refused : (s : Step) (x : Refusal) → s .going ≡ false → s .begun ≡ true → s .answer ≡ updated.Refused x
-      → Turned (placesOf (c .size) (c .dim)) (numbersOf (c .size) (c .dim)) (termsOf c) (c .samples) (farOf c) (startOf c) r work counts (Refused x) → Progress c (r .events) work counts s
+      → Turned (placesOf (c .size) (c .dim)) (numbersOf (c .size) (c .dim)) (termsOf c) (c .samples) (farOf c) (startCells c) r work counts (Refused x) → UpdateProgress c (r .events) work counts s
   is-refused s x g b a o = not-repaired c (r .events) work counts s x g b a (h .checked) (h .repairs ∙ o)
 
 -- ---- the repair after one that was made
-pub ready-at : {t : UpdateTerms} {xs : List Float} {slots used : ℕ} {work : List Float} {counts : List ℕ} (s : Step) → Ready t xs slots used work counts s → ReadyAt t xs slots used work counts (s .next)
+pub ready-at : {t : UpdateTerms} {xs : List Float} {slots used : ℕ} {work : List Float} {counts : List ℕ} (s : Step) → ReadyUpdate t xs slots used work counts s → ReadyAt t xs slots used work counts (s .next)
 ready-at s h = record {
   call = h .call;
   r = h .going .r;

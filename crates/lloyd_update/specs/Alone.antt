@@ -41,16 +41,16 @@ abbrev pub updateLimit : Float
 updateLimit = fin false 1 (pos 48)
 
 -- 11 at the first assignment that is no cell, with its value and the number of cells
-abbrev pub assigned : List ℕ → ℕ → First → Outcome Unit
-assigned cells n Nowhere = completed tt
-assigned cells n (At s) = refused 11 (whole (getD cells s 0) ∷ whole n ∷ [])
+abbrev pub onlyCells : List ℕ → ℕ → First → Outcome Unit
+onlyCells cells n Nowhere = completed tt
+onlyCells cells n (At s) = refused 11 (whole (getD cells s 0) ∷ whole n ∷ [])
 
 -- 18 for the codebook, then the samples; then 11
 unfoldable pub valueChecks : ℕ → List Float → List Float → List ℕ → Outcome Unit
 valueChecks n codebook samples assignments =
     bounded initialSlice (firstOutside updateLimit codebook)
     (bounded samplesSlice (firstOutside updateLimit samples)
-    (assigned assignments n (firstWhere (λ s. leb n (getD assignments s 0)) (length assignments))))
+    (onlyCells assignments n (firstWhere (λ s. leb n (getD assignments s 0)) (length assignments))))
 
 unfoldable pub updateChecks : Call → Outcome Unit
 updateChecks c =

@@ -63,8 +63,8 @@ cellOf c s = getD (c .assignments) s 0
 abbrev pub oldWordOf : Call → ℕ → ℕ → Float
 oldWordOf c = rowOf (c .dim) (c .codebook)
 
-abbrev pub startOf : Call → Cells
-startOf c = means (c .dim) (samplesOf c) (sampleOf c) (cellOf c) (oldWordOf c)
+abbrev pub startCells : Call → Cells
+startCells c = means (c .dim) (samplesOf c) (sampleOf c) (cellOf c) (oldWordOf c)
 
 abbrev pub farOf : Call → ℕ → ℕ → Float
 farOf c = farthestSample (c .dim) (samplesOf c) (sampleOf c) (cellOf c) (oldWordOf c)
@@ -80,8 +80,8 @@ pub record Added (c : Call) (s : ℕ) (work : List Float) (counts : List ℕ) : 
 -- the cells below `next` have had their turn, which came to r, and the work holds it
 pub record Under (c : Call) (next : ℕ) (r : Repaired) (work : List Float) (counts : List ℕ) : Type 0 where
   pub checked : updateChecks c ≡ completed tt
-  pub repairs : updateOf c ≡ repairTo (termsOf c) (farOf c) (startOf c) (c .size)
-  pub running : Running (placesOf (c .size) (c .dim)) (numbersOf (c .size) (c .dim)) (termsOf c) (c .samples) (farOf c) (startOf c) next r work counts
+  pub repairs : updateOf c ≡ repairTo (termsOf c) (farOf c) (startCells c) (c .size)
+  pub running : Running (placesOf (c .size) (c .dim)) (numbersOf (c .size) (c .dim)) (termsOf c) (c .samples) (farOf c) (startCells c) next r work counts
 
 -- a repair was made; its event waits to be written after `events`
 pub record Going (c : Call) (events : List LloydRepairEvent) (work : List Float) (counts : List ℕ) (s : Step) : Type 0 where
@@ -99,8 +99,8 @@ pub record Ended (c : Call) (events : List LloydRepairEvent) (work : List Float)
   pub early : s .begun ≡ false → (u : Unit) → updateChecks c ≡ completed u → ⊥
 
 -- either
-abbrev pub Progress : Call → List LloydRepairEvent → List Float → List ℕ → Step → Type 0
-Progress c events work counts s = (s .going ≡ true → Going c events work counts s) × (s .going ≡ false → Ended c events work counts s)
+abbrev pub UpdateProgress : Call → List LloydRepairEvent → List Float → List ℕ → Step → Type 0
+UpdateProgress c events work counts s = (s .going ≡ true → Going c events work counts s) × (s .going ≡ false → Ended c events work counts s)
 
 -- the numbers that a call was made with
 pub record Matches (c : Call) (t : UpdateTerms) (xs : List Float) (most : ℕ) : Type 0 where
@@ -112,7 +112,7 @@ pub record Matches (c : Call) (t : UpdateTerms) (xs : List Float) (most : ℕ) :
   pub slots : c .slots ≡ most
 
 -- some update is going on
-pub record Ready (t : UpdateTerms) (samples : List Float) (slots m : ℕ) (work : List Float) (counts : List ℕ) (s : Step) : Type 0 where
+pub record ReadyUpdate (t : UpdateTerms) (samples : List Float) (slots m : ℕ) (work : List Float) (counts : List ℕ) (s : Step) : Type 0 where
   pub call : Call
   pub events : List LloydRepairEvent
   pub matches : Matches call t samples slots

@@ -15,7 +15,7 @@ ghost use Rattle.lloyd_events.specs.Events.{zeroEvent};
 ghost use Rattle.lloyd_cells.specs.Cells.{countTo};
 ghost use Rattle.lloyd_cells.specs.Repair.{Repaired};
 ghost use Rattle.lloyd_update.specs.Alone.{Call, updateChecks, valueChecks};
-ghost use Rattle.lloyd_update.specs.Progress.{callOf, placesOf, Addable, Added, Matches, Ready, ReadyAt, Going, Under, Progress, isAccepted};
+ghost use Rattle.lloyd_update.specs.Progress.{callOf, placesOf, Addable, Added, Matches, ReadyUpdate, ReadyAt, Going, Under, UpdateProgress, isAccepted};
 use error::Checked;
 use error::Refusal;
 use error::names;
@@ -220,8 +220,8 @@ pub fn next_repair(
     t: UpdateTerms,
     s: Step,
 ) -> Step
-    requires { ⌜ Ready t (now samples) slots used (now work) (now counts) s ⌝ }
-    ensures { λ s'. ⌜ ((c : Call) (events : List LloydRepairEvent) → Matches c t (now (samples .entry)) slots → used ≡ length (events ++ (s .event ∷ [])) → Going c events (now (work .entry)) (now (counts .entry)) s → Progress c (events ++ (s .event ∷ [])) (now (work .exit)) (now (counts .exit)) s') ⌝ }
+    requires { ⌜ ReadyUpdate t (now samples) slots used (now work) (now counts) s ⌝ }
+    ensures { λ s'. ⌜ ((c : Call) (events : List LloydRepairEvent) → Matches c t (now (samples .entry)) slots → used ≡ length (events ++ (s .event ∷ [])) → Going c events (now (work .entry)) (now (counts .entry)) s → UpdateProgress c (events ++ (s .event ∷ [])) (now (work .exit)) (now (counts .exit)) s') ⌝ }
 {
     repair_on(samples, work, counts, slots, used, t, s.next)
 }
@@ -237,7 +237,7 @@ fn repair_on(
     from: usize,
 ) -> Step
     requires { ⌜ ReadyAt t (now samples) slots used (now work) (now counts) from ⌝ }
-    ensures { λ s'. ⌜ ((c : Call) (r : Repaired) → Matches c t (now (samples .entry)) slots → used ≡ length (r .events) → Under c from r (now (work .entry)) (now (counts .entry)) → Progress c (r .events) (now (work .exit)) (now (counts .exit)) s') ⌝ }
+    ensures { λ s'. ⌜ ((c : Call) (r : Repaired) → Matches c t (now (samples .entry)) slots → used ≡ length (r .events) → Under c from r (now (work .entry)) (now (counts .entry)) → UpdateProgress c (r .events) (now (work .exit)) (now (counts .exit)) s') ⌝ }
 {
     let n = t.codebook_size as usize;
     let k = t.block_dim as usize;
@@ -285,7 +285,7 @@ pub fn begin_update(
     slots: usize,
     t: UpdateTerms,
 ) -> Step
-    ensures progress { λ s. ⌜ Progress (callOf t (now (codebook .entry)) (now (samples .entry)) (now (assignments .entry)) (length (now (work .entry))) (length (now (counts .entry))) slots) [] (now (work .exit)) (now (counts .exit)) s ⌝ }
+    ensures progress { λ s. ⌜ UpdateProgress (callOf t (now (codebook .entry)) (now (samples .entry)) (now (assignments .entry)) (length (now (work .entry))) (length (now (counts .entry))) slots) [] (now (work .exit)) (now (counts .exit)) s ⌝ }
     ensures early { λ s. ⌜ (s .begun ≡ false → (now (work .exit) ≡ now (work .entry)) × (now (counts .exit) ≡ now (counts .entry))) ⌝ }
 {
     if let Checked::Refused(r) = check_update(

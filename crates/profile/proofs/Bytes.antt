@@ -8,7 +8,7 @@ use lib.Dec.{eqb}
 use lib.ListN.{length, drop, getD, drop-of-length-le}
 use lib.Seq.{drop-cons}
 use borrow.Author.Tests.{eqb-true, eq-eqb}
-use Rattle.profile.specs.Tests.{sameBytes}
+use Rattle.profile.specs.Fields.{sameBytes}
 
 both-left : (a b : Bool) → (a && b) ≡ true → a ≡ true
 both-left true b h = refl

@@ -5,9 +5,9 @@ use lib.Ieee.{Float}
 use Rattle.error.specs.Numbers.{Outcome, completed, refusal, also}
 use Rattle.error.specs.declared.Refusal.{Refusal}
 use Rattle.profile.specs.declared.FibQuantProfile.{FibQuantProfile}
-use Rattle.profile.specs.Tests.{profileSchema, rotationAlgorithm}
-use Rattle.profile.specs.Valid.{shapeOf, validity}
-use Rattle.profile.specs.Facts.{Valid}
+use Rattle.profile.specs.Fields.{profileSchema, rotationAlgorithm}
+use Rattle.profile.specs.Checks.{shapeOf, validity}
+use Rattle.profile.specs.Valid.{Valid}
 use Rattle.profile.specs.Paper.{profileOf, paperOf}
 use Rattle.error.proofs.Refusals.{also-refused, also-then, also-first, also-next}
 use Rattle.profile.proofs.Facts.{valid}

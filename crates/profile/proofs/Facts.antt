@@ -13,9 +13,9 @@ use Rattle.profile.specs.declared.NormFormat.{NormFormat}
 use Rattle.profile.specs.declared.NormFormat.the-variants.{Fp16Paper, F32Reference}
 use Rattle.profile.specs.declared.SourceMode.{SourceMode}
 use Rattle.profile.specs.declared.FibQuantProfile.{FibQuantProfile}
-use Rattle.profile.specs.Tests.{profileSchema, rotationAlgorithm, indexWidth}
-use Rattle.profile.specs.Valid.{named, shapeOf, sizesOf, formatsOf, widthOf, ratesOf, methodsOf, settingsOf, numbersOf, validity}
-use Rattle.profile.specs.Facts.{Shape, Settings, Valid}
+use Rattle.profile.specs.Fields.{profileSchema, rotationAlgorithm, indexWidth}
+use Rattle.profile.specs.Checks.{named, shapeOf, sizesOf, formatsOf, widthOf, ratesOf, methodsOf, settingsOf, numbersOf, validity}
+use Rattle.profile.specs.Valid.{Shape, Settings, Valid}
 use Rattle.error.proofs.Outcomes.{passed}
 use Rattle.error.proofs.Refusals.{also-first, also-next}
 use Rattle.profile.proofs.Width.{width-range}

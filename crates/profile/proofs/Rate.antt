@@ -7,7 +7,7 @@ use lib.IntN.{ℤ}
 use lib.Dec.{eqb, ltb}
 use lib.Ieee.{Float, nan, inf, fin, lt, le, eq, up, down}
 use borrow.Author.Tests.{eqb-true, eqb-false, eq-eqb, ne-eqb, lt-ltb}
-use Rattle.profile.specs.Tests.{abs}
+use Rattle.profile.specs.Fields.{abs}
 
 eqb-sym : (a b : ℕ) → eqb a b ≡ eqb b a
 eqb-sym a b = go (eqb a b) (eqb-true a b) (eqb-false a b)

@@ -7,8 +7,8 @@ use lib.Count.{leadingZeros, leading-top}
 use lib.Pow.{pow-mono}
 use lib.Ieee.{size}
 use lib.Ieee.Digits.{size-lt, size-le}
-use Rattle.profile.specs.Tests.{indexWidth}
-use Rattle.profile.specs.Facts.{LeastWidth}
+use Rattle.profile.specs.Fields.{indexWidth}
+use Rattle.profile.specs.Valid.{LeastWidth}
 
 pub least-width : (n : ℕ) → LeastWidth (n - 1) (indexWidth n)
 least-width n = record { holds = size-lt (n - 1); least = size-le (n - 1) }

@@ -1,4 +1,4 @@
-pub mod Tests
-pub mod Valid
+pub mod Fields
+pub mod Checks
 pub mod Paper
-pub mod Facts
+pub mod Valid

@@ -19,8 +19,8 @@ use Rattle.profile.specs.declared.BlockCount.{BlockCount}
 use Rattle.profile.specs.declared.BlockCount.the-variants as blocks
 use Rattle.profile.specs.declared.Samples.{Samples}
 use Rattle.profile.specs.declared.Samples.the-variants as samples
-use Rattle.profile.specs.Tests.{profileSchema, rotationAlgorithm, radiusFor, directionFor, indexWidth}
-use Rattle.profile.specs.Valid.{shapeOf, perCoord, validity}
+use Rattle.profile.specs.Fields.{profileSchema, rotationAlgorithm, radiusFor, directionFor, indexWidth}
+use Rattle.profile.specs.Checks.{shapeOf, perCoord, validity}
 
 -- ---- the answers as outcomes
 

@@ -11,8 +11,8 @@ ghost use mathlib.Core.Path.{_≡_};
 ghost use Rattle.error.specs.Numbers.{checked};
 ghost use Rattle.error.specs.Numbers as numbers;
 ghost use lib.Ieee.{le};
-ghost use Rattle.profile.specs.Tests.{sameBytes, abs, tolerance, rateAgrees, radiusFor, directionFor, sameRadius, sameDirection, indexWidth};
-ghost use Rattle.profile.specs.Valid as valid;
+ghost use Rattle.profile.specs.Fields.{sameBytes, abs, tolerance, rateAgrees, radiusFor, directionFor, sameRadius, sameDirection, indexWidth};
+ghost use Rattle.profile.specs.Checks as valid;
 
 // The first refusal of two.
 pub fn also(first: Checked, second: Checked) -> Checked

@@ -8,7 +8,7 @@ use error::Refusal;
 use error::names;
 ghost use mathlib.Core.Path.{_≡_};
 ghost use Rattle.error.specs.Numbers.{checked};
-ghost use Rattle.profile.specs.Valid.{validity, numbersOf};
+ghost use Rattle.profile.specs.Checks.{validity, numbersOf};
 ghost use Rattle.profile.specs.Paper.{paperProfile, paperOf, profileOf, wireBits, wireBitsOf, blockCount, blockCountOf, sampleCount, samplesOf, withinLimits};
 
 // How the norm of a vector is stored.

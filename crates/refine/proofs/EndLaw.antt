@@ -20,8 +20,8 @@ use Rattle.lloyd_refine.specs.declared.Refinement.the-variants as refinements
 use Rattle.lloyd_refine.specs.declared.RefineStep.{RefineStep}
 use Rattle.lloyd_refine.specs.Refine.{Job, sizeOf, dimOf, refineChecks, Best, refineOf, refinement, narrowed, codewordsAfter, workAfter, slotsAfter}
 use Rattle.lloyd_refine.specs.Report.{refinementOf, reportOf}
-use Rattle.lloyd_refine.specs.Standing.{Ended, Progress}
-use Rattle.lloyd_refine.specs.Steps.{isReport}
+use Rattle.lloyd_refine.specs.Standing.{Ended, RefineProgress}
+use Rattle.lloyd_refine.specs.Pauses.{isReport}
 use Rattle.lloyd_refine.proofs.CheckLaw.{checks-passed}
 
 -- ---- the answer's case is the outcome's
@@ -37,7 +37,7 @@ not-accepted (refinements.Report r) n vs e = let z : _≡_ {A = ℕ} 0 1 = cc in
 not-accepted (refinements.Refused x) n vs e = refl
 
 -- a refinement that has passed its checks has begun
-pub has-begun : (j : Job) (events : List LloydRepairEvent) (work : List Float) (ints : List ℕ) (s : RefineStep) → Progress j events work ints s → refineChecks j ≡ completed tt → s .begun ≡ false → ⊥
+pub has-begun : (j : Job) (events : List LloydRepairEvent) (work : List Float) (ints : List ℕ) (s : RefineStep) → RefineProgress j events work ints s → refineChecks j ≡ completed tt → s .begun ≡ false → ⊥
 has-begun j events work ints s p k b = go (s .going) refl
   where
     go : (t : Bool) → s .going ≡ t → ⊥

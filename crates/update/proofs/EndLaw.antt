@@ -20,7 +20,7 @@ use Rattle.lloyd_update.specs.declared.Updated.{Updated}
 use Rattle.lloyd_update.specs.declared.Updated.the-variants as updated
 use Rattle.lloyd_update.specs.declared.Step.{Step}
 use Rattle.lloyd_update.specs.Alone.{Call, termsOf, updateChecks, updateOf, updateAlone, codebookAfter, workAfter, slotsAfter}
-use Rattle.lloyd_update.specs.Progress.{updatedOf, startOf, farOf, Under, Ended, isAccepted}
+use Rattle.lloyd_update.specs.Progress.{updatedOf, startCells, farOf, Under, Ended, isAccepted}
 use Rattle.lloyd_update.proofs.CheckLaw.{checks-passed}
 use Rattle.lloyd_update.proofs.RepairsLaw.{eventCount, not-completed}
 
@@ -41,7 +41,7 @@ words-held c r work counts h =
     let u = h .running in
     let some = u .fit .some in
     let size = length-take-le (n * k) work (omega (arith, u .fit .words, u .fit .distortions, u .fit .farthest)) in
-    let full = tallied-some (tallied (termsOf c) (farOf c) (startOf c) n r (le-refl n) (u .came)) in
+    let full = tallied-some (tallied (termsOf c) (farOf c) (startCells c) n r (le-refl n) (u .came)) in
     tabulate-is nan (take (n * k) work) (λ i. r .cells .word (i / k) (i % k)) (λ i l.
     let m : i < n * k = omega (arith, size, l) in
     let q = div-lt-iff-lt-mul some .1 m in

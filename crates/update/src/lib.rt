@@ -7,7 +7,7 @@ ghost use lib.ListN.{length};
 ghost use Rattle.error.specs.Numbers.{completed, andThen};
 ghost use Rattle.ieee.specs.Sum.{plusZero};
 ghost use Rattle.lloyd_update.specs.Alone.{updateAlone, codebookAfter, workAfter, slotsAfter};
-ghost use Rattle.lloyd_update.specs.Progress.{callOf, updatedOf, Progress, isAccepted};
+ghost use Rattle.lloyd_update.specs.Progress.{callOf, updatedOf, UpdateProgress, isAccepted};
 use lloyd_events::LloydRepairEvent;
 use lloyd_update::Step;
 use lloyd_update::UpdateTerms;
@@ -24,7 +24,7 @@ fn begin(
     t: UpdateTerms,
 ) -> Step
     ensures codebook { λ s. ⌜ now (codebook .exit) ≡ now (codebook .entry) ⌝ }
-    ensures progress { λ s. ⌜ Progress
+    ensures progress { λ s. ⌜ UpdateProgress
         (callOf t (now (codebook .entry)) (now (samples .entry)) (now (assignments .entry))
         (length (now (work .entry))) (length (now (counts .entry))) slots)
         [] (now (work .exit)) (now (counts .exit)) s ⌝ }

@@ -3,7 +3,7 @@ use mathlib.Core.Path.{_≡_, sym, ap, _∙_}
 use native.Mathlib.Omega.{arith}
 use Rattle.error.specs.Numbers.{completed, checked}
 use Rattle.compact.specs.Frame.{Parts, partsOf}
-use Rattle.profile.specs.Facts.{Valid}
+use Rattle.profile.specs.Valid.{Valid}
 use Rattle.profile.proofs.Facts as profile-facts
 use Rattle.norm.specs.Norm.{normValue}
 use Rattle.decode.specs.Decode.{DecodeCall, decodeCall}

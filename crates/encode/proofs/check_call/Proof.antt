@@ -1,7 +1,7 @@
 -- `encode::check_call` meets its contract: each check refuses as the definition does. Assumes nothing.
 use mathlib.Core.Path.{_≡_, sym, ap, _∙_}
 use Rattle.error.specs.Numbers.{completed, checked}
-use Rattle.profile.specs.Facts.{Valid}
+use Rattle.profile.specs.Valid.{Valid}
 use Rattle.profile.proofs.Facts as profile-facts
 use Rattle.encode.specs.Encode.{EncodeCall, encodeCall}
 use Rattle.encode.proofs.CheckLaw.{Passes, Sizes, call-invalid, call-unsized, call-sized}

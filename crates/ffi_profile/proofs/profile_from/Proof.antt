@@ -1,4 +1,4 @@
--- `ffi_profile::profile_from` meets its contract: the codes give the choices. Assumes nothing.
+-- `ffi_profile::profile_from` meets its contract: the numbers give the choices. Assumes nothing.
 use borrow.Author.Needs.{needs}
 use Rattle.ffi_profile.proofs.profile_from.Statement.{statement}
 use Rattle.ffi_profile.proofs.profile_from.Tie as tie

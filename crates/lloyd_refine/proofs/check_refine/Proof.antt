@@ -2,7 +2,7 @@
 use mathlib.Core.Path.{_≡_, sym, ap, _∙_}
 use borrow.Author.Needs.{needs}
 use Rattle.error.specs.Numbers.{completed, checked}
-use Rattle.profile.specs.Valid.{validity}
+use Rattle.profile.specs.Checks.{validity}
 use Rattle.profile.proofs.Facts as profile-facts
 use Rattle.lloyd_refine.specs.Refine.{Job, lengthChecks}
 use Rattle.lloyd_refine.specs.Standing.{jobOf}

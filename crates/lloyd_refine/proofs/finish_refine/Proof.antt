@@ -9,7 +9,7 @@ use lib.Ieee.{nan, binary32}
 use borrow.Author.Needs.{needs}
 use Rattle.slices.specs.Lists.{tabulate}
 use Rattle.narrow.specs.Pack.{narrowTo}
-use Rattle.lloyd_refine.specs.Steps.{isReport}
+use Rattle.lloyd_refine.specs.Pauses.{isReport}
 use Rattle.lloyd_refine.proofs.finish_refine.Statement.{statement}
 use Rattle.lloyd_refine.proofs.finish_refine.Tie as tie
 

@@ -2,7 +2,7 @@
 use mathlib.Core.Path.{_≡_, refl, ap}
 use mathlib.Core.Bool.{Bool, true, false, _&&_}
 use borrow.Author.Needs.{needs}
-use Rattle.lloyd_refine.specs.Steps.{isReport}
+use Rattle.lloyd_refine.specs.Pauses.{isReport}
 use Rattle.lloyd_refine.proofs.refused_after_start.Statement.{statement}
 use Rattle.lloyd_refine.proofs.refused_after_start.Tie as tie
 

@@ -11,7 +11,7 @@ use Rattle.lloyd_refine.specs.declared.Pause.{Pause}
 use Rattle.lloyd_refine.specs.declared.RefineState.{RefineState}
 use Rattle.lloyd_refine.specs.Refine.{Job}
 use Rattle.lloyd_refine.specs.Standing.{InRound}
-use Rattle.lloyd_refine.specs.Steps.{Paused, Stands}
+use Rattle.lloyd_refine.specs.Pauses.{Paused, Pausing}
 use Rattle.lloyd_refine.proofs.TurnLaw.{by-job, few-before, few-made, room-before, small-of, ready-turn, to-turn, of-turn, turned}
 use Rattle.lloyd_refine.proofs.repair_on.Statement.{statement}
 use Rattle.lloyd_refine.proofs.repair_on.Tie as tie
@@ -52,7 +52,7 @@ returns c =
     let a = c .before .before .before .before .before .before .before .before .before .before .before .before .before .before .before .args in
     let p = c .before .before .before .before .before .before .places .result in
     let e = c .before .before .before .before .before .before .places .ensures in (
-      λ j b t u same h. by-job j (λ (z : Job). InRound z b t u (a .s) (a .work .now) (a .ints .now) → Stands z (t .events ++ u .events) (n .repair-next .last .0) (n .repair-next .last .1 .0) (c .paused .result)) same
+      λ j b t u same h. by-job j (λ (z : Job). InRound z b t u (a .s) (a .work .now) (a .ints .now) → Pausing z (t .events ++ u .events) (n .repair-next .last .0) (n .repair-next .last .1 .0) (c .paused .result)) same
           (λ g. turned g (n .repair-next .last .0) (n .repair-next .last .1 .0) (subst (λ (z : Places). Kept z (a .profile .«codebook_size») (a .profile .«block_dim») (a .work .now) (n .repair-next .last .0)) e (n .repair-next .ensures .1 .0)) (n .repair-next .kept .1 .0) (n .repair-next .result) (c .paused .result) (c .paused .ensures)
           (of-turn g p e (n .repair-next .last .0) (n .repair-next .last .1 .0) (n .repair-next .result) (n .repair-next .ensures .0 _ _ u (sym (g .made)) (to-turn g p e)))) h,
       same-round (a .profile) (a .s) (n .repair-next .result) (c .paused .result) (c .paused .ensures),

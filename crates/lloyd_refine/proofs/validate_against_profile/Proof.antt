@@ -4,7 +4,7 @@ use mathlib.Core.Bool.{true, false}
 use lib.Ieee.Scale.{finite}
 use borrow.Author.Needs.{needs}
 use borrow.Author.Tests.{not-true, not-false, eq-eqb, ne-eqb}
-use Rattle.profile.specs.Tests.{ascii, sameBytes}
+use Rattle.profile.specs.Fields.{ascii, sameBytes}
 use Rattle.lloyd_refine.specs.Report.{reportSchema, sameSettings, reportTest}
 use Rattle.lloyd_refine.proofs.validate_against_profile.Statement.{statement}
 use Rattle.lloyd_refine.proofs.validate_against_profile.Tie as tie

@@ -10,8 +10,8 @@ use Rattle.lloyd_events.specs.declared.LloydRepairEvent.{LloydRepairEvent}
 use Rattle.lloyd_refine.specs.declared.Pause.{Pause}
 use Rattle.lloyd_refine.specs.Refine.{Job}
 use Rattle.lloyd_refine.specs.Standing.{Matches}
-use Rattle.lloyd_refine.specs.Steps.{Stands}
-use Rattle.lloyd_steps.specs.Rounds.{roundsLeft}
+use Rattle.lloyd_refine.specs.Pauses.{Pausing}
+use Rattle.lloyd_steps.specs.Steps.{roundsLeft}
 use Rattle.lloyd_steps.proofs.advance.Statement.{statement}
 use Rattle.lloyd_steps.proofs.advance.Tie as tie
 
@@ -25,7 +25,7 @@ fewer false true m n e h = omega arith
 fewer a false m n e h = absurd (true≢false (sym e))
 
 abbrev Inv-loop : tie.InvT-loop
-Inv-loop initial samples matrices work₀ ints₀ slots profile pause₀ work ints pause = (length work ≡ length work₀) × (length ints ≡ length ints₀) × ((j : Job) (events : List LloydRepairEvent) → Matches j profile initial samples matrices slots → Stands j events work₀ ints₀ pause₀ → Stands j events work ints pause)
+Inv-loop initial samples matrices work₀ ints₀ slots profile pause₀ work ints pause = (length work ≡ length work₀) × (length ints ≡ length ints₀) × ((j : Job) (events : List LloydRepairEvent) → Matches j profile initial samples matrices slots → Pausing j events work₀ ints₀ pause₀ → Pausing j events work ints pause)
 
 abbrev μ-loop : tie.MeasureT-loop
 μ-loop initial samples matrices work₀ ints₀ slots profile pause₀ work ints pause = turnsLeft profile pause

@@ -6,7 +6,7 @@ use borrow.Author.Needs.{needs}
 use Rattle.error.specs.Numbers.{completed, checked}
 use Rattle.lloyd_refine.specs.Refine.{Job, refineChecks}
 use Rattle.lloyd_refine.specs.Standing.{jobOf}
-use Rattle.lloyd_refine.specs.Steps.{Stands}
+use Rattle.lloyd_refine.specs.Pauses.{Pausing}
 use Rattle.lloyd_steps.proofs.BeginLaw.{unchecked, has-begun}
 use Rattle.lloyd_steps.proofs.begin_refine.Statement.{statement}
 use Rattle.lloyd_steps.proofs.begin_refine.Tie as tie
@@ -21,7 +21,7 @@ accepted : (c : tie.After-enum-told) → refineChecks (job-of (c .before .before
 accepted c = sym (c .before .before .check-refine .ensures) ∙ ap checked (c .enum-told .given .1)
 
 -- the first round has begun
-begun : (c : tie.After-start-refine) → Stands (job-of (c .before .before .before .before .before .before .before .before .before .before .before .before .before)) [] (c .start-refine .last .1 .1 .0) (c .start-refine .last .1 .1 .1 .0) (c .start-refine .result)
+begun : (c : tie.After-start-refine) → Pausing (job-of (c .before .before .before .before .before .before .before .before .before .before .before .before .before)) [] (c .start-refine .last .1 .1 .0) (c .start-refine .last .1 .1 .1 .0) (c .start-refine .result)
 begun c = c .start-refine .ensures (job-of (c .before .before .before .before .before .before .before .before .before .before .before .before .before)) (record { profile = refl; initial = refl; samples = refl; matrices = refl; slots = refl }) (accepted (c .before .before .before)) refl refl
 
 check-refine-requires : tie.Need-check-refine-requires

@@ -6,7 +6,7 @@ use lib.Ieee.{Float}
 use Rattle.profile.specs.declared.FibQuantProfile.{FibQuantProfile}
 use Rattle.lloyd_events.specs.declared.LloydRepairEvent.{LloydRepairEvent}
 use Rattle.lloyd_refine.specs.Refine.{Job}
-use Rattle.lloyd_refine.specs.Standing.{Progress, Matches}
+use Rattle.lloyd_refine.specs.Standing.{RefineProgress, Matches}
 use Rattle.lloyd_steps.proofs.next_refine.Statement.{statement}
 use Rattle.lloyd_steps.proofs.next_refine.Tie as tie
 
@@ -32,7 +32,7 @@ same-length-2 c = c .before .before .before .before .advance .kept .1 .1 .1 .1 .
 returns : tie.Need-returns
 returns c =
     let n = c .before .before .before .before in
-    λ j events same h. subst (λ (z : List LloydRepairEvent). Progress j z (n .advance .last .1 .1 .1 .0) (n .advance .last .1 .1 .1 .1 .0) (n .advance .result)) (h .last)
+    λ j events same h. subst (λ (z : List LloydRepairEvent). RefineProgress j z (n .advance .last .1 .1 .1 .0) (n .advance .last .1 .1 .1 .1 .0) (n .advance .result)) (h .last)
     (n .advance .ensures j (h .t .events ++ h .u .events) same (c .before .before .before .before .before .before .before .before .before .before .before .repair-on .ensures .0 j (h .b) (h .t) (h .u) (repairs-match same) (h .standing)))
 
 pub next-refine-spec : {M : Type 1} → statement M

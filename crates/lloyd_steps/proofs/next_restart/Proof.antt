@@ -8,9 +8,9 @@ use borrow.Author.Needs.{needs}
 use Rattle.lloyd_events.specs.declared.LloydRepairEvent.{LloydRepairEvent}
 use Rattle.lloyd_refine.specs.declared.Refinement.the-variants.{Report}
 use Rattle.lloyd_refine.specs.Refine.{Job, Best, Trained, restartsOf, afterRestart, trainedFrom}
-use Rattle.lloyd_refine.specs.Standing.{jobOf, Progress}
-use Rattle.lloyd_refine.specs.Steps.{Stands}
-use Rattle.lloyd_steps.specs.Rounds.{AtRound}
+use Rattle.lloyd_refine.specs.Standing.{jobOf, RefineProgress}
+use Rattle.lloyd_refine.specs.Pauses.{Pausing}
+use Rattle.lloyd_steps.specs.Steps.{AtRound}
 use Rattle.lloyd_refine.proofs.CheckLaw.{checks-passed}
 use Rattle.lloyd_refine.proofs.EventLaw.{after-events}
 use Rattle.lloyd_refine.proofs.TurnLaw.{by-job, to-args}
@@ -72,10 +72,10 @@ returns c =
     let s = c .before .before .before .before .before .before .before .before .before .before .before .before .before .before .before .before in
     let k = c .before .before .before .before .before .before .before in
     let e = c .stop .ensures in (
-      λ j b t same h. by-job j (λ (z : Job). At s z b t → Stands z (t .events) (k .keep-better .last .1 .0) (s .args .ints .now) (record { over = false; step = c .stop .result })) same
+      λ j b t same h. by-job j (λ (z : Job). At s z b t → Pausing z (t .events) (k .keep-better .last .1 .0) (s .args .ints .now) (record { over = false; step = c .stop .result })) same
           (λ g. (
             λ y. absurd (true≢false (sym y)),
-            λ y. subst (λ (x : List LloydRepairEvent). Progress (jobFor s j) x (k .keep-better .last .1 .0) (s .args .ints .now) (c .stop .result)) (after-events (jobFor s j) (s .args .s .restart) b t)
+            λ y. subst (λ (x : List LloydRepairEvent). RefineProgress (jobFor s j) x (k .keep-better .last .1 .0) (s .args .ints .now) (c .stop .result)) (after-events (jobFor s j) (s .args .s .restart) b t)
                 (refined (subst (λ (x : ℕ). Kept (jobFor s j) x (best-of k j b t) (startedAt (s .args .s .restart + 1) (k .keep-better .result)) (k .keep-better .last .1 .0)) (c .before .before .if1 .taken) (kept-started (best k j b t g))) (g .checked) (s .args .ints .now) (c .stop .result) (e .0) (e .1)
                 (e .3 ∙ ap Report (c .before .report .ensures))),
           )) h,
@@ -111,8 +111,8 @@ returns-2 : tie.Need-returns-2
 returns-2 c =
     let s = c .before .before .before .before .before .before .before .before .before .before .before .before .before .before .before .before .before .before .before .before .before .before .before .before .before in
     let n = c .before .before .before .before in (
-      λ j b t same h. by-job j (λ (z : Job). At s z b t → Stands z (t .events) (n .start-round .last .1 .0) (n .start-round .last .1 .1 .0) (n .start-round .result)) same
-          (λ g. subst (λ (x : List LloydRepairEvent). Stands (jobFor s j) x (n .start-round .last .1 .0) (n .start-round .last .1 .1 .0) (n .start-round .result)) (after-events (jobFor s j) (s .args .s .restart) b t)
+      λ j b t same h. by-job j (λ (z : Job). At s z b t → Pausing z (t .events) (n .start-round .last .1 .0) (n .start-round .last .1 .1 .0) (n .start-round .result)) same
+          (λ g. subst (λ (x : List LloydRepairEvent). Pausing (jobFor s j) x (n .start-round .last .1 .0) (n .start-round .last .1 .1 .0) (n .start-round .result)) (after-events (jobFor s j) (s .args .s .restart) b t)
           (n .start-round .ensures .0 (jobFor s j) (best-of (c .before .before .before .before .before .before .before .before .before .before .before .before .before .before .before .before) j b t) (trainedFrom (jobFor s j) (s .args .s .restart + 1) (best-of (c .before .before .before .before .before .before .before .before .before .before .before .before .before .before .before .before) j b t)) (record { profile = refl; initial = refl; samples = refl; matrices = refl; slots = refl }) (started (c .before .before .before .before .before .before .before .before .before) j b t g))) h,
       λ y. n .start-round .ensures .1,
     )

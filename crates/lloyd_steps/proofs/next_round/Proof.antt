@@ -7,8 +7,8 @@ use borrow.Author.Needs.{needs}
 use Rattle.lloyd_events.specs.declared.LloydRepairEvent.{LloydRepairEvent}
 use Rattle.lloyd_refine.specs.Refine.{Job, afterRound}
 use Rattle.lloyd_refine.specs.Standing.{jobOf}
-use Rattle.lloyd_refine.specs.Steps.{Over, Stands}
-use Rattle.lloyd_steps.specs.Rounds.{AtRound}
+use Rattle.lloyd_refine.specs.Pauses.{Over, Pausing}
+use Rattle.lloyd_steps.specs.Steps.{AtRound}
 use Rattle.lloyd_refine.proofs.CheckLaw.{Passed, checks-passed}
 use Rattle.lloyd_refine.proofs.TurnLaw.{by-job, to-args, few-before, few-made}
 use Rattle.lloyd_steps.proofs.RoundLaw.{ended, round-ended}
@@ -76,8 +76,8 @@ returns c =
     let s = c .before .before .before .before .before .before .before .before .before .before .before .before .before .before .before .before .before .before .before .before .before .before in
     let n = c .before .before .before .before in
     let o = ready s .standing in (
-      λ j events same h. by-job j (λ (z : Job). AtEnd s z events → Stands z events (n .start-round .last .1 .0) (n .start-round .last .1 .1 .0) (n .start-round .result)) same
-          (λ g. subst (λ (x : List LloydRepairEvent). Stands (jobFor s j) x (n .start-round .last .1 .0) (n .start-round .last .1 .1 .0) (n .start-round .result)) (g .so-far)
+      λ j events same h. by-job j (λ (z : Job). AtEnd s z events → Pausing z events (n .start-round .last .1 .0) (n .start-round .last .1 .1 .0) (n .start-round .result)) same
+          (λ g. subst (λ (x : List LloydRepairEvent). Pausing (jobFor s j) x (n .start-round .last .1 .0) (n .start-round .last .1 .1 .0) (n .start-round .result)) (g .so-far)
           (n .start-round .ensures .0 (jobFor s j) (g .b) (afterRound (jobFor s j) (g .t) (g .u)) (record { profile = refl; initial = refl; samples = refl; matrices = refl; slots = refl }) (between (c .before .before .before .before .before .before .before .before .before .before .before .before .before) j events g))) h,
       λ y. next-falls (s .args .profile .«lloyd_restarts») (s .args .profile .«lloyd_iterations») (s .args .s .restart) (s .args .s .iteration) (o .restart-below) (o .round-below) _ _ (n .start-round .ensures .1 .0) (n .start-round .ensures .1 .1),
     )
@@ -100,8 +100,8 @@ returns-2 c =
     let s = c .before .before .before .before .before .before .before .before .before .before .before .before .before .before .before .before .before .before .before .before .before .before in
     let n = c .before .before .before .before in
     let o = ready s .standing in (
-      λ j events same h. by-job j (λ (z : Job). AtEnd s z events → Stands z events (n .next-restart .last .1 .1 .1 .0) (n .next-restart .last .1 .1 .1 .1 .0) (n .next-restart .result)) same
-          (λ g. subst (λ (x : List LloydRepairEvent). Stands (jobFor s j) x (n .next-restart .last .1 .1 .1 .0) (n .next-restart .last .1 .1 .1 .1 .0) (n .next-restart .result)) (g .so-far)
+      λ j events same h. by-job j (λ (z : Job). AtEnd s z events → Pausing z events (n .next-restart .last .1 .1 .1 .0) (n .next-restart .last .1 .1 .1 .1 .0) (n .next-restart .result)) same
+          (λ g. subst (λ (x : List LloydRepairEvent). Pausing (jobFor s j) x (n .next-restart .last .1 .1 .1 .0) (n .next-restart .last .1 .1 .1 .1 .0) (n .next-restart .result)) (g .so-far)
           (n .next-restart .ensures .0 (jobFor s j) (g .b) (afterRound (jobFor s j) (g .t) (g .u)) (record { profile = refl; initial = refl; samples = refl; matrices = refl; slots = refl }) (between (c .before .before .before .before .before .before .before .before .before .before .before .before .before) j events g))) h,
       λ y. restart-falls (s .args .profile .«lloyd_restarts») (s .args .profile .«lloyd_iterations») (s .args .s .restart) (s .args .s .iteration) (o .restart-below) (o .round-below) _ _ (n .next-restart .ensures .1 y .0) (n .next-restart .ensures .1 y .1),
     )

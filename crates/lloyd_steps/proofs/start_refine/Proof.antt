@@ -7,8 +7,8 @@ use borrow.Author.Needs.{needs}
 use Rattle.error.specs.Numbers.{completed}
 use Rattle.lloyd_refine.specs.Refine.{Job, refineChecks, trainedFrom, startBest}
 use Rattle.lloyd_refine.specs.Standing.{jobOf}
-use Rattle.lloyd_refine.specs.Steps.{Stands}
-use Rattle.lloyd_steps.specs.Rounds.{firstState, AtRound}
+use Rattle.lloyd_refine.specs.Pauses.{Pausing}
+use Rattle.lloyd_steps.specs.Steps.{firstState, AtRound}
 use Rattle.lloyd_refine.proofs.CheckLaw.{Passed, checks-passed}
 use Rattle.lloyd_refine.proofs.TurnLaw.{by-job, to-args}
 use Rattle.lloyd_steps.proofs.RestartLaw.{can-measure}
@@ -67,7 +67,7 @@ returns : tie.Need-returns
 returns c =
     let s = c .before .before .before .before .before .before .before .before .before .before .before .before .before .before .before .before .before .before .before .before .before .before in
     let n = c .before .before .before .before in
-    λ j same. by-job j (λ (z : Job). refineChecks z ≡ completed tt → length (s .args .work .now) ≡ z .floatWork → length (s .args .ints .now) ≡ z .integerWork → Stands z [] (n .start-round .last .1 .0) (n .start-round .last .1 .1 .0) (n .start-round .result)) same
+    λ j same. by-job j (λ (z : Job). refineChecks z ≡ completed tt → length (s .args .work .now) ≡ z .floatWork → length (s .args .ints .now) ≡ z .integerWork → Pausing z [] (n .start-round .last .1 .0) (n .start-round .last .1 .1 .0) (n .start-round .result)) same
     (λ k f i. n .start-round .ensures .0 (jobFor s j) (startBest (jobFor s j)) (trainedFrom (jobFor s j) 0 (startBest (jobFor s j))) (record { profile = refl; initial = refl; samples = refl; matrices = refl; slots = refl }) (begun (c .before .before .before .before .before .before .before) j k f i))
 
 pub start-refine-spec : {M : Type 1} → statement M

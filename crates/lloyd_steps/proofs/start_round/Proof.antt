@@ -14,8 +14,8 @@ use Rattle.lloyd_round.specs.Round.{AtFirst}
 use Rattle.lloyd_refine.specs.declared.RefineState.{RefineState}
 use Rattle.lloyd_refine.specs.Refine.{Job, Best, Trained, sizeOf, dimOf, countOf, roundTerms}
 use Rattle.lloyd_refine.specs.Standing.{jobOf, roundMeans, InRound}
-use Rattle.lloyd_refine.specs.Steps.{Stands}
-use Rattle.lloyd_steps.specs.Rounds.{AtRound}
+use Rattle.lloyd_refine.specs.Pauses.{Pausing}
+use Rattle.lloyd_steps.specs.Steps.{AtRound}
 use Rattle.lloyd_refine.proofs.EventLaw.{refused-by}
 use Rattle.lloyd_refine.proofs.TurnLaw.{by-job, to-args, not-refined}
 use Rattle.lloyd_steps.proofs.RoundLaw.{unrepaired, roomy, in-round, counted, split-round, closed-round, closed-refuses}
@@ -101,7 +101,7 @@ returns c =
     let n = c .before .before .before .before .before .before .before .before .before .before in
     let s = c .before .before .before .before .before .before .before .before .before .before .before .before .before .before .before .before .before .before .before .args .s in
     let e = c .stop .ensures in (
-      λ j b t same h. by-job j (λ (z : Job). At (c .before .before .before .before .before .before .before .before .before .before .before .before .before .before .before .before .before .before .before) z b t → Stands z (t .events) (n .begin-round .last .1 .0) (n .begin-round .last .1 .1 .0) (record { over = false; step = c .stop .result })) same
+      λ j b t same h. by-job j (λ (z : Job). At (c .before .before .before .before .before .before .before .before .before .before .before .before .before .before .before .before .before .before .before) z b t → Pausing z (t .events) (n .begin-round .last .1 .0) (n .begin-round .last .1 .1 .0) (record { over = false; step = c .stop .result })) same
           (λ g. (
             λ y. absurd (true≢false (sym y)),
             λ y. not-refined (jobFor (c .before .before .before .before .before .before .before .before .before .before .before .before .before .before .before .before .before .before .before) j) (t .events) (n .begin-round .last .1 .0) (n .begin-round .last .1 .1 .0) (c .stop .result) (EmptyCells (c .before .before .before .before .count-empty .result)) (e .0) (e .1) (e .3) (g .checked)
@@ -128,8 +128,8 @@ same-length-4 c = c .before .before .before .before .repair-on .kept .1 .1 .0 �
 returns-2 : tie.Need-returns-2
 returns-2 c =
     let n = c .before .before .before .before in (
-      λ j b t same h. by-job j (λ (z : Job). At (c .before .before .before .before .before .before .before .before .before .before .before .before .before .before .before .before .before .before .before .before .before .before .before) z b t → Stands z (t .events) (n .repair-on .last .1 .0) (n .repair-on .last .1 .1 .0) (n .repair-on .result)) same
-          (λ g. subst (λ (y : List LloydRepairEvent). Stands (jobFor (c .before .before .before .before .before .before .before .before .before .before .before .before .before .before .before .before .before .before .before .before .before .before .before) j) y (n .repair-on .last .1 .0) (n .repair-on .last .1 .1 .0) (n .repair-on .result)) (append-nil (t .events))
+      λ j b t same h. by-job j (λ (z : Job). At (c .before .before .before .before .before .before .before .before .before .before .before .before .before .before .before .before .before .before .before .before .before .before .before) z b t → Pausing z (t .events) (n .repair-on .last .1 .0) (n .repair-on .last .1 .1 .0) (n .repair-on .result)) same
+          (λ g. subst (λ (y : List LloydRepairEvent). Pausing (jobFor (c .before .before .before .before .before .before .before .before .before .before .before .before .before .before .before .before .before .before .before .before .before .before .before) j) y (n .repair-on .last .1 .0) (n .repair-on .last .1 .1 .0) (n .repair-on .result)) (append-nil (t .events))
           (n .repair-on .ensures .0 (jobFor (c .before .before .before .before .before .before .before .before .before .before .before .before .before .before .before .before .before .before .before .before .before .before .before) j) b t (unrepaired (jobFor (c .before .before .before .before .before .before .before .before .before .before .before .before .before .before .before .before .before .before .before .before .before .before .before) j) (t .codebook)) (record { profile = refl; initial = refl; samples = refl; matrices = refl; slots = refl }) (begun (c .before .before .before .before .before .before .before) j b t g))) h,
       n .repair-on .ensures .1,
     )

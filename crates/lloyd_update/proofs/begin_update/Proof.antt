@@ -13,7 +13,7 @@ use Rattle.lloyd_cells.specs.declared.Places.{Places}
 use Rattle.lloyd_cells.specs.Update.{emptyCells}
 use Rattle.lloyd_cells.specs.Work.{Fit}
 use Rattle.lloyd_update.specs.Alone.{Call, updateChecks}
-use Rattle.lloyd_update.specs.Progress.{callOf, startOf, Added, Addable, Under, Matches}
+use Rattle.lloyd_update.specs.Progress.{callOf, startCells, Added, Addable, Under, Matches}
 use Rattle.lloyd_update.proofs.CheckLaw.{Passed, checks-passed}
 use Rattle.lloyd_update.proofs.AddLaw.{shape, places-small}
 use Rattle.lloyd_update.proofs.BeginLaw.{cleared, addable, unrepaired, ready, counted, split-repairs, closed-repairs, closed-refuses, unchecked, has-begun}
@@ -96,7 +96,7 @@ means-of c = c .before .before .before .before
 abbrev counted-call : tie.After-count-empty → Call
 counted-call c = means-call (means-of c)
 
-empties : (c : tie.After-count-empty) → c .count-empty .result ≡ emptyCells (startOf (counted-call c) .tally) (counted-call c .size)
+empties : (c : tie.After-count-empty) → c .count-empty .result ≡ emptyCells (startCells (counted-call c) .tally) (counted-call c .size)
 empties c =
     let m = means-of c in
     let a = added-of m in

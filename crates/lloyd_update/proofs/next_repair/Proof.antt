@@ -4,7 +4,7 @@ use mathlib.Core.List.{List}
 use lib.ListN.{length}
 use borrow.Author.Needs.{needs}
 use Rattle.lloyd_events.specs.declared.LloydRepairEvent.{LloydRepairEvent}
-use Rattle.lloyd_update.specs.Progress.{Progress}
+use Rattle.lloyd_update.specs.Progress.{UpdateProgress}
 use Rattle.lloyd_update.proofs.RepairsLaw.{ready-at}
 use Rattle.lloyd_update.proofs.next_repair.Statement.{statement}
 use Rattle.lloyd_update.proofs.next_repair.Tie as tie
@@ -22,7 +22,7 @@ returns : tie.Need-returns
 returns c =
     let n = c .before .before .before .before in
     λ call events same used h.
-    subst (λ (z : List LloydRepairEvent). Progress call z (n .repair-on .last .1 .0) (n .repair-on .last .1 .1 .0) (n .repair-on .result)) (h .last)
+    subst (λ (z : List LloydRepairEvent). UpdateProgress call z (n .repair-on .last .1 .0) (n .repair-on .last .1 .1 .0) (n .repair-on .result)) (h .last)
     (n .repair-on .ensures call (h .r) same (used ∙ sym (ap length (h .last))) (h .under))
 
 pub next-repair-spec : {M : Type 1} → statement M

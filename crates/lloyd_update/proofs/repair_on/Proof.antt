@@ -8,7 +8,7 @@ use Rattle.lloyd_cells.specs.Repair.{Repaired}
 use Rattle.lloyd_repair.specs.declared.Turn.{Turn}
 use Rattle.lloyd_repair.specs.Running.{Turned}
 use Rattle.lloyd_update.specs.Alone.{Call, termsOf}
-use Rattle.lloyd_update.specs.Progress.{placesOf, numbersOf, startOf, farOf, Under, Matches}
+use Rattle.lloyd_update.specs.Progress.{placesOf, numbersOf, startCells, farOf, Under, Matches}
 use Rattle.lloyd_update.proofs.RepairsLaw.{ready-small, used-small, turn-ready, to-turn, of-turn, goes-on, all-done, is-refused}
 use Rattle.lloyd_update.proofs.repair_on.Statement.{statement}
 use Rattle.lloyd_update.proofs.repair_on.Tie as tie
@@ -23,14 +23,14 @@ start-of c = c .before .before .before .before .before .before .before
 -- what it says of an update that stood where the repairs did
 abbrev Says : tie.After-repair-next → Call → Repaired → Turn → Type 0
 Says c call r =
-    Turned (placesOf (call .size) (call .dim)) (numbersOf (call .size) (call .dim)) (termsOf call) (call .samples) (farOf call) (startOf call) r (c .repair-next .last .0) (c .repair-next .last .1 .0)
+    Turned (placesOf (call .size) (call .dim)) (numbersOf (call .size) (call .dim)) (termsOf call) (call .samples) (farOf call) (startCells call) r (c .repair-next .last .0) (c .repair-next .last .1 .0)
 
 says : (c : tie.After-repair-next) (call : Call) (r : Repaired) → let a = start-of c .args in Matches call (a .t) (a .samples .now) (a .slots) → a .used ≡ length (r .events)
     → Under call (a .from) r (a .work .now) (a .counts .now) → Says c call r (c .repair-next .result)
 says c call r same used h =
     let p = c .before .places in
     of-turn same (p .result) (p .ensures) r (c .repair-next .last .0) (c .repair-next .last .1 .0) (c .repair-next .result)
-    (c .repair-next .ensures .0 (farOf call) (startOf call) r (sym used) (to-turn same (p .result) (p .ensures) h))
+    (c .repair-next .ensures .0 (farOf call) (startCells call) r (sym used) (to-turn same (p .result) (p .ensures) h))
 
 mul-t15 : tie.Need-mul-t15
 mul-t15 c = omega (arith, small (c .before .before .before))

@@ -59,8 +59,8 @@ use Rattle.lloyd_refine.specs.declared.RefineStep.{RefineStep}
 use Rattle.lloyd_refine.specs.declared.Refinement.{Refinement}
 use Rattle.lloyd_refine.specs.Refine.{Job, refinement, codewordsAfter, workAfter, slotsAfter}
 use Rattle.lloyd_refine.specs.Report.{refinementOf, reportOf}
-use Rattle.lloyd_refine.specs.Standing.{jobOf, Progress, Going, Ended, Matches, Ready}
-use Rattle.lloyd_refine.specs.Steps.{isReport}
+use Rattle.lloyd_refine.specs.Standing.{jobOf, RefineProgress, Going, Ended, Matches, ReadyRefine}
+use Rattle.lloyd_refine.specs.Pauses.{isReport}
 use Rattle.lloyd_refine.proofs.RefineStep as S
 use Rattle.lloyd_refine.proofs.RefineStep.Laws as S′
 use Rattle.lloyd_refine.proofs.Refinement as R
@@ -179,7 +179,7 @@ module _ {M : Type 1} (𝓤 : URA M) (H : Heap 𝓤) (A : Atoms 𝓤) (W : Given
 
   -- what `next_refine` carries over
   abbrev Carried : List Float → List ℕ → RefineStep → List Float → List ℕ → RefineStep → Type 0
-  Carried w n s w′ n′ s′ = (j : Job) (evs : List Event) → Matches j pf st xs ms (ev .count) → Going j evs w n s → Progress j (evs ++ (s .event ∷ [])) w′ n′ s′
+  Carried w n s w′ n′ s′ = (j : Job) (evs : List Event) → Matches j pf st xs ms (ev .count) → Going j evs w n s → RefineProgress j (evs ++ (s .event ∷ [])) w′ n′ s′
 
   -- the parameters, with their slices' elements
   abbrev params : List Float → List Float → List ℕ → List Event → List Arg
@@ -220,7 +220,7 @@ module _ {M : Type 1} (𝓤 : URA M) (H : Heap 𝓤) (A : Atoms 𝓤) (W : Given
       ∷ plainA usize (cw .count) (vint w64 (cw .count) ∷ []) ∷ plainA usize (ev .count) (vint w64 (ev .count) ∷ []) ∷ []
 
   abbrev Begun : RefineStep → Ends begin-args → List (Type 0)
-  Begun s ws = Progress job [] (ws .1 .1 .1 .0) (ws .1 .1 .1 .1 .0) s ∷ (s .begun ≡ false → (ws .1 .1 .1 .0 ≡ wk₀) × (ws .1 .1 .1 .1 .0 ≡ nt₀)) ∷ []
+  Begun s ws = RefineProgress job [] (ws .1 .1 .1 .0) (ws .1 .1 .1 .1 .0) s ∷ (s .begun ≡ false → (ws .1 .1 .1 .0 ≡ wk₀) × (ws .1 .1 .1 .1 .0 ≡ nt₀)) ∷ []
 
   begin-does : Calling 𝓤 H A W C #begin begin-args S.the-row step-val (λ s ws. All (Begun s ws))
   begin-does = called-all 𝓤 H A W C fm begin-args (n-wk, (n-nt, (profile-own, (log-own, (number-own (cw .count) (cw .fits .0), (number-own (ev .count) (ev .fits .0), tt)))))) (Begin 𝓤 H A mem run) (met .begin-met)
@@ -257,7 +257,7 @@ module _ {M : Type 1} (𝓤 : URA M) (H : Heap 𝓤) (A : Atoms 𝓤) (W : Given
     abbrev Next-says : RefineStep → Ends next-args → Type 0
     Next-says s′ ws = Carried w n s (ws .1 .1 .1 .0) (ws .1 .1 .1 .1 .0) s′
 
-    next-does : Ready pf st xs ms (ev .count) w n s → Calling 𝓤 H A W C #next next-args S.the-row step-val Next-says
+    next-does : ReadyRefine pf st xs ms (ev .count) w n s → Calling 𝓤 H A W C #next next-args S.the-row step-val Next-says
     next-does ready = called 𝓤 H A W C fm next-args (n-w, (n-n, (number-own (ev .count) (ev .fits .0), (profile-own, (step-own s s-is, tt))))) (Next 𝓤 H A mem run) (met .next-met)
         (λ νs. ((lfts next-args νs, shares next-args, tt, args next-args νs, machs next-args), tt)) S.the-row step-val step-told Next-says (λ νs. refl)
         (λ νs. qed W (raw (toks 𝓤 H A next-args νs) ∷ raw (owned-by 𝓤 H A next-args νs) ∷ []) ∵ says ! ready $ done !) (λ νs v. id⊢ 𝓤 _)
@@ -315,7 +315,7 @@ module _ {M : Type 1} (𝓤 : URA M) (H : Heap 𝓤) (A : Atoms 𝓤) (W : Given
     n-w : length w ≡ wk .count
     n-n : length n ≡ nt .count
     n-e : length es ≡ ev .count
-    progress : Progress job evs w n s
+    progress : RefineProgress job evs w n s
     early : s .begun ≡ false → Untouched w n evs
     is-used : used ≡ length evs
     is-log : es ≡ logged evs ev₀
@@ -336,10 +336,10 @@ module _ {M : Type 1} (𝓤 : URA M) (H : Heap 𝓤) (A : Atoms 𝓤) (W : Given
         room : ev .count < 2 ^ 64
         room = ev .fits .0
 
-    ready : Ready pf st xs ms (ev .count) (u .w) (u .n) (u .s)
+    ready : ReadyRefine pf st xs ms (ev .count) (u .w) (u .n) (u .s)
     ready = record { job = job; events = u .evs; matches = same-job; going = u .progress .0 e }
 
-    goes-on : (w′ : List Float) (n′ : List ℕ) (s′ : RefineStep) → Carried (u .w) (u .n) (u .s) w′ n′ s′ → Progress job (u .evs ++ (u .s .event ∷ [])) w′ n′ s′
+    goes-on : (w′ : List Float) (n′ : List ℕ) (s′ : RefineStep) → Carried (u .w) (u .n) (u .s) w′ n′ s′ → RefineProgress job (u .evs ++ (u .s .event ∷ [])) w′ n′ s′
     goes-on w′ n′ s′ carried = carried job (u .evs) same-job (u .progress .0 e)
 
     abbrev after-turn : (es′ : List Event) → length es′ ≡ ev .count → es′ ≡ set (u .es) (u .used) (u .s .event) → (s′ : RefineStep) → Is S.the-row s′ (step-val s′ ∷ []) → (w′ : List Float) → length w′ ≡ wk .count → (n′ : List ℕ) → length n′ ≡ nt .count

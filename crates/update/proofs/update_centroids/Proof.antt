@@ -53,7 +53,7 @@ use Rattle.lloyd_update.specs.declared.Step.{Step}
 use Rattle.lloyd_update.specs.declared.Updated.{Updated}
 use Rattle.lloyd_update.specs.declared.UpdateTerms.{UpdateTerms}
 use Rattle.lloyd_update.specs.Alone.{Call, updateAlone, codebookAfter, workAfter, slotsAfter}
-use Rattle.lloyd_update.specs.Progress.{callOf, updatedOf, Progress, Going, Ended, Matches, Ready, isAccepted}
+use Rattle.lloyd_update.specs.Progress.{callOf, updatedOf, UpdateProgress, Going, Ended, Matches, ReadyUpdate, isAccepted}
 use Rattle.lloyd_update.proofs.BeginLaw.{has-begun}
 use Rattle.lloyd_update.proofs.Step as S
 use Rattle.lloyd_update.proofs.Step.Laws as S′
@@ -171,7 +171,7 @@ module _ {M : Type 1} (𝓤 : URA M) (H : Heap 𝓤) (A : Atoms 𝓤) (W : Given
 
   -- what `next_repair` carries over, after a repair whose event is the last of `used`
   abbrev Carried : List Float → List ℕ → ℕ → Step → List Float → List ℕ → Step → Type 0
-  Carried w n used s w′ n′ s′ = (c : Call) (evs : List Event) → Matches c t xs (ev .count) → used ≡ length (evs ++ (s .event ∷ [])) → Going c evs w n s → Progress c (evs ++ (s .event ∷ [])) w′ n′ s′
+  Carried w n used s w′ n′ s′ = (c : Call) (evs : List Event) → Matches c t xs (ev .count) → used ≡ length (evs ++ (s .event ∷ [])) → Going c evs w n s → UpdateProgress c (evs ++ (s .event ∷ [])) w′ n′ s′
 
   -- the parameters, with their slices' elements
   abbrev params : List Float → List Float → List ℕ → List Event → List Arg
@@ -207,7 +207,7 @@ module _ {M : Type 1} (𝓤 : URA M) (H : Heap 𝓤) (A : Atoms 𝓤) (W : Given
   begin-args = lendA cb cb₀ ∷ showA sam xs ∷ showA asg ps ∷ lendA wk wk₀ ∷ lendA ct ct₀ ∷ besideA (has ev ev₀) ∷ plainA usize (ev .count) (vint w64 (ev .count) ∷ []) ∷ plainA P.the-row t (terms-val t ∷ []) ∷ []
 
   abbrev Begun : Step → Ends begin-args → List (Type 0)
-  Begun s ws = (ws .0 ≡ cb₀) ∷ Progress call [] (ws .1 .1 .1 .0) (ws .1 .1 .1 .1 .0) s ∷ (s .begun ≡ false → (ws .1 .1 .1 .0 ≡ wk₀) × (ws .1 .1 .1 .1 .0 ≡ ct₀)) ∷ []
+  Begun s ws = (ws .0 ≡ cb₀) ∷ UpdateProgress call [] (ws .1 .1 .1 .0) (ws .1 .1 .1 .1 .0) s ∷ (s .begun ≡ false → (ws .1 .1 .1 .0 ≡ wk₀) × (ws .1 .1 .1 .1 .0 ≡ ct₀)) ∷ []
 
   begin-does : Calling 𝓤 H A W C #begin begin-args S.the-row step-val (λ s ws. All (Begun s ws))
   begin-does = called-all 𝓤 H A W C fm begin-args (n-cb, (n-wk, (n-ct, (number-own (ev .count) (ev .fits .0), (terms-own, tt))))) (Begin 𝓤 H A mem run) (met .begin-met)
@@ -236,7 +236,7 @@ module _ {M : Type 1} (𝓤 : URA M) (H : Heap 𝓤) (A : Atoms 𝓤) (W : Given
           (λ νs. ((lfts put-args νs, shares put-args, tt, args put-args νs, machs put-args), tt)) Nothing (λ _. vunit) (λ r v is. ap only is) (λ r ws. ws .0 ≡ set es used (s .event)) (λ νs. refl)
           (λ νs. qed W (raw (toks 𝓤 H A put-args νs) ∷ raw (owned-by 𝓤 H A put-args νs) ∷ []) ∵ says ! (subst (λ (k : ℕ). used < k) (sym n-e) within) $ done !) (λ νs v. id⊢ 𝓤 _)
 
-    module _ (used : ℕ) (used-fits : used < 2 ^ 64) (ready : Ready t xs (ev .count) used w n s) where
+    module _ (used : ℕ) (used-fits : used < 2 ^ 64) (ready : ReadyUpdate t xs (ev .count) used w n s) where
       abbrev next-args : List Arg
       next-args = besideA (has cb cb₀) ∷ showA sam xs ∷ besideA (shows-it asg ps) ∷ lendA wk w ∷ lendA ct n ∷ besideA (has ev es) ∷ plainA usize (ev .count) (vint w64 (ev .count) ∷ []) ∷ plainA usize used (vint w64 used ∷ []) ∷ plainA P.the-row t (terms-val t ∷ []) ∷ plainA S.the-row s (step-val s ∷ []) ∷ []
 
@@ -299,7 +299,7 @@ module _ {M : Type 1} (𝓤 : URA M) (H : Heap 𝓤) (A : Atoms 𝓤) (W : Given
     n-w : length w ≡ wk .count
     n-n : length n ≡ ct .count
     n-e : length es ≡ ev .count
-    progress : Progress call evs w n s
+    progress : UpdateProgress call evs w n s
     early : s .begun ≡ false → Untouched w n evs
     is-used : used ≡ length evs
     is-log : es ≡ logged evs ev₀
@@ -323,10 +323,10 @@ module _ {M : Type 1} (𝓤 : URA M) (H : Heap 𝓤) (A : Atoms 𝓤) (W : Given
     one-more : u .used + 1 ≡ length (u .evs ++ (u .s .event ∷ []))
     one-more = ap (λ (k : ℕ). k + 1) (u .is-used) ∙ sym (length-more (u .evs) (u .s .event))
 
-    ready : Ready t xs (ev .count) (u .used + 1) (u .w) (u .n) (u .s)
+    ready : ReadyUpdate t xs (ev .count) (u .used + 1) (u .w) (u .n) (u .s)
     ready = record { call = call; events = u .evs; matches = same-call; going = u .progress .0 e; used = omega (arith, u .is-used) }
 
-    goes-on : (w′ : List Float) (n′ : List ℕ) (s′ : Step) → Carried (u .w) (u .n) (u .used + 1) (u .s) w′ n′ s′ → Progress call (u .evs ++ (u .s .event ∷ [])) w′ n′ s′
+    goes-on : (w′ : List Float) (n′ : List ℕ) (s′ : Step) → Carried (u .w) (u .n) (u .used + 1) (u .s) w′ n′ s′ → UpdateProgress call (u .evs ++ (u .s .event ∷ [])) w′ n′ s′
     goes-on w′ n′ s′ carried = carried call (u .evs) same-call one-more (u .progress .0 e)
 
     abbrev after-turn : (es′ : List Event) → length es′ ≡ ev .count → es′ ≡ set (u .es) (u .used) (u .s .event) → (s′ : Step) → Is S.the-row s′ (step-val s′ ∷ []) → (w′ : List Float) → length w′ ≡ wk .count → (n′ : List ℕ) → length n′ ≡ ct .count

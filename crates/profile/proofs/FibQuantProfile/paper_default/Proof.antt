@@ -2,8 +2,8 @@
 use mathlib.Core.Path.{_≡_, sym, ap, _∙_}
 use native.Mathlib.Omega.{arith}
 use Rattle.error.specs.Numbers.{completed, checked}
-use Rattle.profile.specs.Tests.{profileSchema, rotationAlgorithm, ascii}
-use Rattle.profile.specs.Valid.{shapeOf}
+use Rattle.profile.specs.Fields.{profileSchema, rotationAlgorithm, ascii}
+use Rattle.profile.specs.Checks.{shapeOf}
 use Rattle.profile.proofs.Facts.{shape-facts}
 use Rattle.profile.proofs.Default.{shape-refused, checks-refused, built}
 use borrow.Author.Needs.{needs}

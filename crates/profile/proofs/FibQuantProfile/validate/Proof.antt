@@ -1,6 +1,6 @@
 -- `profile::FibQuantProfile::validate` meets its contract: the answers of the checks, put one before another, are the definition's. Assumes nothing.
-use Rattle.profile.specs.Tests.{profileSchema, rotationAlgorithm, ascii}
-use Rattle.profile.specs.Valid.{validity}
+use Rattle.profile.specs.Fields.{profileSchema, rotationAlgorithm, ascii}
+use Rattle.profile.specs.Checks.{validity}
 use borrow.Author.Needs.{needs}
 use Rattle.profile.proofs.FibQuantProfile.validate.Statement.{statement}
 use Rattle.profile.proofs.FibQuantProfile.validate.Tie as tie

@@ -5,7 +5,7 @@ use Prim.Native.Nat.{_≤_, _-_}
 use native.Mathlib.Omega.{arith}
 use lib.ListN.{length, drop}
 use borrow.Author.Needs.{needs}
-use Rattle.profile.specs.Tests.{sameBytes}
+use Rattle.profile.specs.Fields.{sameBytes}
 use Rattle.profile.proofs.Bytes.{other-length, same-from, same-end}
 use Rattle.profile.proofs.checks.same.Statement.{statement}
 use Rattle.profile.proofs.checks.same.Tie as tie

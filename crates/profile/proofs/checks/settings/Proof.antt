@@ -1,7 +1,7 @@
 -- `profile::checks::settings` meets its contract: each answer follows from the tests on its way. Assumes nothing.
 use mathlib.Core.Logic.{⊎-elim}
 use borrow.Author.Tests.{eq-eqb, ne-eqb, lt-ltb, le-ltb}
-use Rattle.profile.specs.Valid.{settingsOf}
+use Rattle.profile.specs.Checks.{settingsOf}
 use Rattle.profile.proofs.checks.settings.Statement.{statement}
 use Rattle.profile.proofs.checks.settings.Tie as tie
 

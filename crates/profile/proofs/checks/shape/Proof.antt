@@ -1,7 +1,7 @@
 -- `profile::checks::shape` meets its contract: each answer follows from the tests on its way. Assumes nothing.
 use mathlib.Core.Logic.{⊎-elim}
 use borrow.Author.Tests.{eq-eqb, ne-eqb, lt-ltb, le-ltb}
-use Rattle.profile.specs.Valid.{shapeOf}
+use Rattle.profile.specs.Checks.{shapeOf}
 use borrow.Author.Needs.{needs}
 use Rattle.profile.proofs.checks.shape.Statement.{statement}
 use Rattle.profile.proofs.checks.shape.Tie as tie
