@@ -1,4 +1,5 @@
--- A search among distances that are no NaN and not below zero, infinite ones included, finds the first of the least; and such are the distances between finite values. Assumes nothing.
+-- A search among distances that are no NaN and not below zero, infinite ones included, finds the first of the least;
+-- and such are the distances between finite values. Assumes nothing.
 use mathlib.Core.Path.{_≡_, refl, sym, subst}
 use Prim.Native.Nat.{ℕ, zero, suc, _+_, _-_, _*_, _<_, _≤_}
 use native.Mathlib.Nat.{zero-lt-suc, lt-suc-self, le-step}

@@ -1,4 +1,5 @@
--- Rounding does not fall below a value that the format holds: so a square, a sum of squares and its root are at least what a power of two in one of the differences says. Assumes nothing.
+-- Rounding does not fall below a value that the format holds: so a square, a sum of squares and its root are at least
+-- what a power of two in one of the differences says. Assumes nothing.
 use mathlib.Core.Path.{_≡_, subst}
 use mathlib.Core.Logic.{_⊎_, inl, inr}
 use Prim.Native.Nat.{ℕ, zero, suc, _*_, _≤_, _<_}

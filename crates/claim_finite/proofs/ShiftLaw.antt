@@ -1,4 +1,5 @@
--- A residual's norm, where it is above the least, is at least half of each of its differences; so a codeword is moved by at most 1 / 64 (in truth by about 2 / 1,000,000). Assumes nothing.
+-- A residual's norm, where it is above the least, is at least half of each of its differences; so a codeword is moved
+-- by at most 1 / 64 (in truth by about 2 / 1,000,000). Assumes nothing.
 use mathlib.Core.Path.{_≡_, refl, sym, ap, _∙_, subst}
 use mathlib.Core.Logic.{inl, inr}
 use Prim.Native.Nat.{ℕ, zero, suc, _+_, _-_, _*_, _^_, _≤_, _<_}

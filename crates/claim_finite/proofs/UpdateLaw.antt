@@ -1,4 +1,5 @@
--- A call of update alone that passes its checks: every arithmetic result of it is finite, and the codebook that it leaves, where it is accepted, is at most 2 ^ 48 again. Assumes nothing.
+-- A call of update alone that passes its checks: every arithmetic result of it is finite, and the codebook that it
+-- leaves, where it is accepted, is at most 2 ^ 48 again. Assumes nothing.
 use mathlib.Core.Path.{_≡_}
 use Prim.Native.Nat.{ℕ, _+_, _*_, _/_, _^_, _<_}
 use mathlib.Core.List.{List}

@@ -1,4 +1,5 @@
--- The tallies worked out from the events of an update are those of its rule: each repair was fair at its moment, every cell ends with a sample, and none is lost.
+-- The tallies worked out from the events of an update are those of its rule: each repair was fair at its moment, every
+-- cell ends with a sample, and none is lost.
 -- Assumes nothing.
 use mathlib.Core.Path.{_≡_, refl, sym, ap, _∙_, subst}
 use mathlib.Core.Logic.{inl, inr}

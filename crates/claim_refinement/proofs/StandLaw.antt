@@ -1,4 +1,5 @@
--- Where a restart starts: the initial codebook and the rotated ones have n * k values of at most 2 ^ 48, and so have codewords that are bounded so. Each passes the check of update alone. Assumes nothing.
+-- Where a restart starts: the initial codebook and the rotated ones have n * k values of at most 2 ^ 48, and so have
+-- codewords that are bounded so. Each passes the check of update alone. Assumes nothing.
 use mathlib.Core.Path.{_≡_, refl}
 use Prim.Native.Nat.{ℕ, _+_, _-_, _*_, _/_, _%_, _^_, _≤_, _<_}
 use native.Mathlib.Nat.{lt-of-le-of-lt, mod-lt, div-lt-iff-lt-mul, mul-le-mul-right}

@@ -1,7 +1,10 @@
--- What demand 3 claims of a refinement: `AnyRefinement`, at the end; proofs/RefinementLaw.antt proves it of every job. It speaks
--- of `refinement`, `roundOf`, `startOf`, `errorOf` and `slotsAfter`, the definitions for refine's own contract, and of histories
+-- What demand 3 claims of a refinement: `AnyRefinement`, at the end; proofs/RefinementLaw.antt proves it of every job.
+-- It speaks
+-- of `refinement`, `roundOf`, `startOf`, `errorOf` and `slotsAfter`, the definitions for refine's own contract, and of
+-- histories
 -- as specs/History.antt has them.
--- Document 01's terms: the start is candidate 0, the end of restart r is candidate r + 1; the error is measured before narrowing.
+-- Document 01's terms: the start is candidate 0, the end of restart r is candidate r + 1; the error is measured before
+-- narrowing.
 -- Definitions only.
 use mathlib.Core.Path.{_≡_}
 use mathlib.Core.Logic.{_⊎_}
@@ -26,24 +29,31 @@ use Rattle.lloyd_refine.specs.Report.{reportOf}
 use Rattle.claim_history.specs.History.{Request, callWith, after, answers, Tallies, History}
 
 -- ---- the course of a refinement
--- `stand r i` is what stands before round i of restart r: the codebook, and the events of all rounds before, those of earlier
+-- `stand r i` is what stands before round i of restart r: the codebook, and the events of all rounds before, those of
+-- earlier
 -- restarts too. At i = I it is the end of restart r. `repairs r i` is what round i of restart r comes to.
 pub record Course : Type 0 where
   pub stand : ℕ → ℕ → Trained
   pub repairs : ℕ → ℕ → Repaired
 
--- value i of codeword w, turned by matrix r, the first lent being 1, stored row by row: products and sums rounded, in the order of row i from +0
+-- value i of codeword w, turned by matrix r, the first lent being 1, stored row by row: products and sums rounded, in
+-- the order of row i from +0
 abbrev pub turnedAt : Job → ℕ → ℕ → ℕ → Float
-turnedAt j r w i = sumTo (λ m. mul binary64 (getD (j .matrices) ((r - 1) * (dimOf j * dimOf j) + (i * dimOf j + m)) nan) (getD (j .initial) (w * dimOf j + m) nan)) (dimOf j)
+turnedAt j r w i = sumTo
+    (λ m. mul binary64 (getD (j .matrices) ((r - 1) * (dimOf j * dimOf j) + (i * dimOf j + m)) nan)
+    (getD (j .initial) (w * dimOf j + m) nan)) (dimOf j)
 
 -- it is the course by document 01's rounds, and b has its events
 pub record Ran (j : Job) (c : Course) (b : Best) : Type 0 where
   pub starts : (r : ℕ) → r < restartsOf j → c .stand r 0 .codebook ≡ startOf j r
   -- restart 0 starts at the initial codebook, every later one at the initial codebook turned by its matrix
   pub first-start : c .stand 0 0 .codebook ≡ j .initial
-  pub later-starts : (r w i : ℕ) → 0 < r → r < restartsOf j → w < sizeOf j → i < dimOf j → getD (c .stand r 0 .codebook) (w * dimOf j + i) nan ≡ turnedAt j r w i
-  pub rounds : (r i : ℕ) → r < restartsOf j → i < iterationsOf j → roundOf j r i (length (c .stand r i .events)) (c .stand r i .codebook) ≡ completed (c .repairs r i)
-  pub next : (r i : ℕ) → r < restartsOf j → i < iterationsOf j → c .stand r (suc i) ≡ afterRound j (c .stand r i) (c .repairs r i)
+  pub later-starts : (r w i : ℕ) → 0 < r → r < restartsOf j → w < sizeOf j → i < dimOf j
+      → getD (c .stand r 0 .codebook) (w * dimOf j + i) nan ≡ turnedAt j r w i
+  pub rounds : (r i : ℕ) → r < restartsOf j → i < iterationsOf j
+      → roundOf j r i (length (c .stand r i .events)) (c .stand r i .codebook) ≡ completed (c .repairs r i)
+  pub next : (r i : ℕ) → r < restartsOf j → i < iterationsOf j
+      → c .stand r (suc i) ≡ afterRound j (c .stand r i) (c .repairs r i)
   -- as the definitions for refine's contract go on from round to round
   pub came : (r i : ℕ) → r < restartsOf j → i ≤ iterationsOf j → roundsTo j r (c .stand r 0) i ≡ completed (c .stand r i)
   -- events are gathered from round to round and from restart to restart
@@ -61,7 +71,8 @@ abbrev pub placeOf : Winner → ℕ
 placeOf start = 0
 placeOf (restart r) = suc r
 
--- of the finite errors of the candidates the least is returned, with its codebook: every other has no less, every earlier one more
+-- of the finite errors of the candidates the least is returned, with its codebook: every other has no less, every
+-- earlier one more
 pub record Wins (j : Job) (c : Course) (b : Best) : Type 0 where
   pub one-of : placeOf (b .winner) < suc (restartsOf j)
   pub codebook : b .codebook ≡ candidate j c (placeOf (b .winner))
@@ -71,7 +82,8 @@ pub record Wins (j : Job) (c : Course) (b : Best) : Type 0 where
   pub earlier-more : (p : ℕ) → p < placeOf (b .winner) → T (lt (b .error) (errorOf j (candidate j c p)))
 
 -- ---- how far a refinement comes
--- t stands before round i of restart r, or at the restart's end where i is I: the earlier restarts and the earlier rounds are
+-- t stands before round i of restart r, or at the restart's end where i is I: the earlier restarts and the earlier
+-- rounds are
 -- completed. What comes later may be refused.
 pub record Reached (j : Job) (r i : ℕ) (t : Trained) : Type 0 where
   pub best : Best
@@ -79,7 +91,8 @@ pub record Reached (j : Job) (r i : ℕ) (t : Trained) : Type 0 where
   pub rounds : roundsTo j r (trainedFrom j r best) i ≡ completed t
 
 -- ---- the rounds of a restart are a history
--- round i of restart r where t stands, as a request to update alone: nearest codewords as assignments, and the slots still
+-- round i of restart r where t stands, as a request to update alone: nearest codewords as assignments, and the slots
+-- still
 -- free
 abbrev pub roundRequest : Job → ℕ → ℕ → Trained → Request
 roundRequest j r i t = record {
@@ -122,16 +135,20 @@ pub record Rounds (j : Job) (c : Course) (r n : ℕ) : Type 0 where
   -- so that all that is claimed of a history holds of them
   pub history : History (requestsTo j c r n) (startOf j r)
 
--- where the refinement is accepted, the events of each round of restart r stand in the slots that it leaves, from the round's
+-- where the refinement is accepted, the events of each round of restart r stand in the slots that it leaves, from the
+-- round's
 -- first free one on, and the round's book (document 01's term for the tallies) is in order
 pub record Logged (j : Job) (c : Course) (r : ℕ) : Type 0 where
   pub events : (i : ℕ) → i < iterationsOf j → (slots : List LloydRepairEvent)
-      → take (length (c .repairs r i .events)) (drop (length (c .stand r i .events)) (slotsAfter j slots)) ≡ c .repairs r i .events
+      → take (length (c .repairs r i .events)) (drop (length (c .stand r i .events)) (slotsAfter j slots))
+      ≡ c .repairs r i .events
   pub tallies : (i : ℕ) → i < iterationsOf j → (slots : List LloydRepairEvent)
-      → Tallies (roundCallAt j c r i) (drop (length (c .stand r i .events)) (slotsAfter j slots)) (length (c .repairs r i .events))
+      → Tallies (roundCallAt j c r i) (drop (length (c .stand r i .events)) (slotsAfter j slots))
+      (length (c .repairs r i .events))
 
 -- ---- a refused refinement
--- the refusal n, vs of a refinement beside what the update alone comes to: the same 14 or 16; or 19, which there shows the
+-- the refusal n, vs of a refinement beside what the update alone comes to: the same 14 or 16; or 19, which there shows
+-- the
 -- slots still free and here all slots
 abbrev pub SameRefusal : Job → Trained → ℕ → List Value → Outcome Repaired → Type 0
 SameRefusal j t n vs o =
@@ -151,7 +168,8 @@ pub record AcceptedRefinement (j : Job) (b : Best) : Type 0 where
   pub written : (before : List Float) → codewordsAfter j before ≡ narrowed (b .codebook)
   pub reported : reportOf j b .«best_mse» ≡ b .error
 
--- of one refused after its checks: the rounds that were completed are a history, restart by restart, and it came to a round that
+-- of one refused after its checks: the rounds that were completed are a history, restart by restart, and it came to a
+-- round that
 -- update alone refuses too, past its own checks; crate rule says what that refusal means
 pub record RefusedRefinement (j : Job) (n : ℕ) (vs : List Value) : Type 0 where
   pub course : Course
@@ -164,11 +182,13 @@ pub record RefusedRefinement (j : Job) (n : ℕ) (vs : List Value) : Type 0 wher
   -- with the refused one as the last call
   pub history : History (requestsTo j course in-restart (suc in-round)) (startOf j in-restart)
   pub checked : updateChecks (roundCallAt j course in-restart in-round) ≡ completed tt
-  pub refusal : SameRefusal j (course .stand in-restart in-round) n vs (updateAlone (roundCallAt j course in-restart in-round))
+  pub refusal : SameRefusal j (course .stand in-restart in-round) n vs
+      (updateAlone (roundCallAt j course in-restart in-round))
 
 -- of any
 pub record AnyRefinement (j : Job) : Type 0 where
   pub accepts : (b : Best) → refinement j ≡ completed b → AcceptedRefinement j b
   -- samples are at least as many as codewords, so "no donor" never comes
   pub donor : (vs : List Value) → refinement j ≡ refused 15 vs → ⊥
-  pub refuses : refineChecks j ≡ completed tt → (n : ℕ) (vs : List Value) → refinement j ≡ refused n vs → RefusedRefinement j n vs
+  pub refuses : refineChecks j ≡ completed tt → (n : ℕ) (vs : List Value) → refinement j ≡ refused n vs
+      → RefusedRefinement j n vs

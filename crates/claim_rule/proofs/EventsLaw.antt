@@ -1,4 +1,5 @@
--- The events of the repairs, one after another: each tells a repair that was due, their empty cells rise, and each cell without a sample has its event. Assumes nothing.
+-- The events of the repairs, one after another: each tells a repair that was due, their empty cells rise, and each cell
+-- without a sample has its event. Assumes nothing.
 use mathlib.Core.Path.{_≡_, refl, sym, ap, _∙_, subst}
 use mathlib.Core.Logic.{inl, inr}
 use Prim.Native.Nat.{ℕ, zero, suc, _<_, _≤_, zero-le}

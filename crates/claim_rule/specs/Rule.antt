@@ -1,4 +1,7 @@
--- What the rule of an update means, in document 01's words: `Rule c`, at the end; proofs/RuleLaw.antt proves it of every call whose checks passed. It speaks of `updateOf`, the rule that the contract of `update::update_centroids` cites, and says it without its recursion: what a cell's mean is, which repairs are made, and why an update is refused. Definitions only.
+-- What the rule of an update means, in document 01's words: `Rule c`, at the end; proofs/RuleLaw.antt proves it of
+-- every call whose checks passed. It speaks of `updateOf`, the rule that the contract of `update::update_centroids`
+-- cites, and says it without its recursion: what a cell's mean is, which repairs are made, and why an update is
+-- refused. Definitions only.
 use mathlib.Core.Path.{_≡_}
 use mathlib.Core.Logic.{_⊎_}
 use Prim.Native.Nat.{ℕ, suc, _<_, _≤_}
@@ -37,7 +40,9 @@ pub record Cell (c : Call) (i : ℕ) : Type 0 where
   pub members : Members (cellOf c) (samplesOf c) i member
   pub sums : (t : ℕ → Float) → cellSum (cellOf c) t i (samplesOf c) ≡ sumTo (λ q. t (member q)) (assigned c i)
   -- a cell with samples becomes sum / count, another keeps its codeword
-  pub mean : (j : ℕ) → 0 < assigned c i → startCells c .word i j ≡ div binary64 (sumTo (λ q. sampleOf c (member q) j) (assigned c i)) (ofInt binary64 (pos (assigned c i)))
+  pub mean : (j : ℕ) → 0 < assigned c i
+      → startCells c .word i j
+      ≡ div binary64 (sumTo (λ q. sampleOf c (member q) j) (assigned c i)) (ofInt binary64 (pos (assigned c i)))
   pub kept : (j : ℕ) → assigned c i ≡ 0 → startCells c .word i j ≡ oldWordOf c i j
   -- the sum of the distances to the old codeword
   pub distortion : startCells c .distortion i ≡ sumTo (λ q. distanceOf c (member q)) (assigned c i)
@@ -51,14 +56,16 @@ unfoldable pub takesPart : List LloydRepairEvent → ℕ → Bool
 takesPart [] i = false
 takesPart (event ∷ events) i = partOf event i || takesPart events i
 
--- r is what stands when the cells below e have had their turn. Its tallies are worked out from its repairs, as document 01's book is; the distortion of a cell that took part in one is +0, and a cell that took part in none has its mean
+-- r is what stands when the cells below e have had their turn. Its tallies are worked out from its repairs, as document
+-- 01's book is; the distortion of a cell that took part in one is +0, and a cell that took part in none has its mean
 pub record Stands (c : Call) (e : ℕ) (r : Repaired) : Type 0 where
   pub came : repairTo (termsOf c) (farOf c) (startCells c) e ≡ completed r
   pub tally : (i : ℕ) → r .cells .tally i ≡ tallyAfter (assigned c) (r .events) i
   pub distortion : (i : ℕ) → r .cells .distortion i ≡ cond (takesPart (r .events) i) plusZero (startCells c .distortion i)
   pub word : (i j : ℕ) → takesPart (r .events) i ≡ false → r .cells .word i j ≡ startCells c .word i j
 
--- The donor d where `before` stands: of the cells with tally above 1 the one of largest distortion, the last of equals; and of the samples assigned to it the farthest by the old distances, the first of equals
+-- The donor d where `before` stands: of the cells with tally above 1 the one of largest distortion, the last of equals;
+-- and of the samples assigned to it the farthest by the old distances, the first of equals
 pub record Donor (c : Call) (before : Repaired) (d : ℕ) (far : Farthest) : Type 0 where
   pub last-largest : LastLargest (before .cells .tally) (before .cells .distortion) (c .size) d
   pub first-farthest : FirstFarthest (cellOf c) (distanceOf c) d (samplesOf c) far
@@ -87,7 +94,9 @@ pub record Repair (c : Call) (event : LloydRepairEvent) (before after : Repaired
   pub above : T (lt leastNorm (event .«residual_norm»))
   pub slot : length (before .events) < c .slots
   -- donor and empty cell part, and the event comes last
-  pub parted : after .cells ≡ split (c .dim) (sampleOf c (far .sample)) (event .«residual_norm») (before .cells) (event .«donor_cell») (event .«empty_cell»)
+  pub parted : after .cells
+      ≡ split (c .dim) (sampleOf c (far .sample)) (event .«residual_norm») (before .cells) (event .«donor_cell»)
+      (event .«empty_cell»)
   pub told : after .events ≡ before .events ++ (event ∷ [])
 
 abbrev pub eventAt : Repaired → ℕ → LloydRepairEvent
@@ -169,4 +178,5 @@ pub record Rule (c : Call) : Type 0 where
   pub accepts : (r : Repaired) → updateOf c ≡ completed r → Accepted c r
   pub refuses : (n : ℕ) (vs : List Value) → updateOf c ≡ refused n vs → Refused c n vs
   -- where every cell has a sample, the means are the answer
-  pub full : ((i : ℕ) → i < c .size → 0 < assigned c i) → updateOf c ≡ completed (record { cells = startCells c; events = [] })
+  pub full : ((i : ℕ) → i < c .size → 0 < assigned c i)
+      → updateOf c ≡ completed (record { cells = startCells c; events = [] })

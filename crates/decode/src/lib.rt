@@ -290,7 +290,8 @@ pub fn decode(
         (length (now (output .entry))) (length (now (work .entry))) in
         (checked r ≡ accepted (decoding c))
         × (now (output .exit) ≡ contents (decoding c) (now (output .entry)))
-        × (now (work .exit) ≡ ifCompleted (decodable c) (replicate (length (now (work .entry))) plusZero) (now (work .entry)))) ⌝ }
+        × (now (work .exit) ≡ ifCompleted (decodable c)
+        (replicate (length (now (work .entry))) plusZero) (now (work .entry)))) ⌝ }
 {
     let parsed = compact::parse_compact(bytes);
     match parsed {

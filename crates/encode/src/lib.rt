@@ -311,7 +311,8 @@ pub fn encode(
         (length (now (output .entry))) (length (now (work .entry))) in
         (checked r ≡ accepted (encoding c))
         × (now (output .exit) ≡ contents (encoding c) (now (output .entry)))
-        × (now (work .exit) ≡ ifCompleted (encoding c) (replicate (length (now (work .entry))) plusZero) (now (work .entry)))) ⌝ }
+        × (now (work .exit) ≡ ifCompleted (encoding c)
+        (replicate (length (now (work .entry))) plusZero) (now (work .entry)))) ⌝ }
 {
     let checks = check_call(
         profile,

@@ -1,4 +1,5 @@
--- What the host gets of a parsed frame: width, count, and how long norm and indices are, which follow the header. Definitions only.
+-- What the host gets of a parsed frame: width, count, and how long norm and indices are, which follow the header.
+-- Definitions only.
 use mathlib.Core.List.{List, [], _∷_}
 use lib.ListN.{length}
 use Rattle.error.specs.Numbers.{Value, whole}

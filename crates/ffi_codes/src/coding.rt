@@ -48,7 +48,8 @@ pub extern "C" fn fib_encode(
         (length (now (output .entry))) (length (now (work .entry))) in
         (found r (now (whole .exit)) (now (real .exit)) ≡ crossed none (accepted (encoding c)))
         × (now (output .exit) ≡ contents (encoding c) (now (output .entry)))
-        × (now (work .exit) ≡ ifCompleted (encoding c) (replicate (length (now (work .entry))) plusZero) (now (work .entry)))) ⌝ }
+        × (now (work .exit) ≡ ifCompleted (encoding c)
+        (replicate (length (now (work .entry))) plusZero) (now (work .entry)))) ⌝ }
 {
     let profile = ffi_profile::profile_from(
         ambient_dim,
@@ -121,7 +122,8 @@ pub extern "C" fn fib_decode(
         (length (now (output .entry))) (length (now (work .entry))) in
         (found r (now (whole .exit)) (now (real .exit)) ≡ crossed none (accepted (decoding c)))
         × (now (output .exit) ≡ contents (decoding c) (now (output .entry)))
-        × (now (work .exit) ≡ ifCompleted (decodable c) (replicate (length (now (work .entry))) plusZero) (now (work .entry)))) ⌝ }
+        × (now (work .exit) ≡ ifCompleted (decodable c)
+        (replicate (length (now (work .entry))) plusZero) (now (work .entry)))) ⌝ }
 {
     let profile = ffi_profile::profile_from(
         ambient_dim,

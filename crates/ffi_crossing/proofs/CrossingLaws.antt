@@ -1,4 +1,5 @@
--- How a single result crosses; and that a refusal crosses in the same way, whatever the call would have answered. Assumes nothing.
+-- How a single result crosses; and that a refusal crosses in the same way, whatever the call would have answered.
+-- Assumes nothing.
 use mathlib.Core.Path.{_≡_, refl}
 use mathlib.Core.List.{List, [], _∷_}
 use Prim.Native.Nat.{ℕ}

@@ -31,7 +31,8 @@ radiusMethodAt number = cond (eqb number 0) BetaQuantile (cond (eqb number 1) K2
 abbrev pub directionMethodAt : ℕ → DirectionMethod
 directionMethodAt number = cond (eqb number 0) FibonacciSpiral (cond (eqb number 1) FibonacciSphere RobertsKronecker)
 
--- The radius method of a pair. Each direction method suits some block dimension, so that none can stand for an unknown number; the radius method then makes the pair unfit.
+-- The radius method of a pair. Each direction method suits some block dimension, so that none can stand for an unknown
+-- number; the radius method then makes the pair unfit.
 abbrev pub radiusMethodBeside : ℕ → ℕ → RadiusMethod
 radiusMethodBeside direction number = cond (ltb 2 direction) LargeDSingleShellExplicit (radiusMethodAt number)
 

@@ -7,25 +7,27 @@ use Rattle.profile.specs.declared.FibQuantProfile.{FibQuantProfile}
 use Rattle.ffi_profile.specs.Choices.{normFormatAt, sourceModeAt, radiusMethodBeside, directionMethodAt, policyAt, normFormatNumber, sourceModeNumber, radiusMethodNumber, directionMethodNumber, policyNumber}
 
 -- the profile of these fields, in the order of its declaration
-abbrev pub profileFrom : (d k n : ℕ) (paperRate : Float) (bits : ℕ) (wireRate : Float) (norm rotationSeed codebookSeed source radius direction restarts iterations samples policy : ℕ) → FibQuantProfile
-profileFrom d k n paperRate bits wireRate norm rotationSeed codebookSeed source radius direction restarts iterations samples policy = record {
-  «ambient_dim» = d;
-  «block_dim» = k;
-  «codebook_size» = n;
-  «paper_rate_bits_per_coord» = paperRate;
-  «wire_index_bits» = bits;
-  «wire_bits_per_coord» = wireRate;
-  «norm_format» = normFormatAt norm;
-  «rotation_seed» = rotationSeed;
-  «codebook_seed» = codebookSeed;
-  «source_mode» = sourceModeAt source;
-  «radius_method» = radiusMethodBeside direction radius;
-  «direction_method» = directionMethodAt direction;
-  «lloyd_restarts» = restarts;
-  «lloyd_iterations» = iterations;
-  «training_samples» = samples;
-  «empty_cell_policy» = policyAt policy;
-}
+abbrev pub profileFrom : (d k n : ℕ) (paperRate : Float) (bits : ℕ) (wireRate : Float)
+    (norm rotationSeed codebookSeed source radius direction restarts iterations samples policy : ℕ) → FibQuantProfile
+profileFrom d k n paperRate bits wireRate norm rotationSeed codebookSeed source radius direction restarts iterations
+    samples policy = record {
+      «ambient_dim» = d;
+      «block_dim» = k;
+      «codebook_size» = n;
+      «paper_rate_bits_per_coord» = paperRate;
+      «wire_index_bits» = bits;
+      «wire_bits_per_coord» = wireRate;
+      «norm_format» = normFormatAt norm;
+      «rotation_seed» = rotationSeed;
+      «codebook_seed» = codebookSeed;
+      «source_mode» = sourceModeAt source;
+      «radius_method» = radiusMethodBeside direction radius;
+      «direction_method» = directionMethodAt direction;
+      «lloyd_restarts» = restarts;
+      «lloyd_iterations» = iterations;
+      «training_samples» = samples;
+      «empty_cell_policy» = policyAt policy;
+    }
 
 -- the fields that are no floats, in the same order
 unfoldable pub fieldsOf : FibQuantProfile → List ℕ

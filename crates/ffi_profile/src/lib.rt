@@ -25,7 +25,9 @@ pub fn profile_from(
     training_samples: u32,
     empty_cell_policy: u8,
 ) -> FibQuantProfile
-    ensures { λ r. ⌜ r ≡ profileFrom «ambient_dim» «block_dim» «codebook_size» «paper_rate» «wire_index_bits» «wire_rate» «norm_format» «rotation_seed» «codebook_seed» «source_mode» «radius_method» «direction_method» restarts iterations «training_samples» «empty_cell_policy» ⌝ }
+    ensures { λ r. ⌜ r ≡ profileFrom «ambient_dim» «block_dim» «codebook_size» «paper_rate» «wire_index_bits»
+        «wire_rate» «norm_format» «rotation_seed» «codebook_seed» «source_mode» «radius_method» «direction_method»
+        restarts iterations «training_samples» «empty_cell_policy» ⌝ }
 {
     FibQuantProfile {
         ambient_dim,

@@ -1,4 +1,5 @@
--- A call that is handed references of its caller for good, at their own lifetimes and names: what the callee's contract says of their last values is then what the caller's own says. It says nothing of the crate.
+-- A call that is handed references of its caller for good, at their own lifetimes and names: what the callee's contract
+-- says of their last values is then what the caller's own says. It says nothing of the crate.
 --     all Ps           the assertions of a list, side by side.        cut, paste     in two parts, and back
 --     handed           what a caller knows of an entry that it hands what the callee's contract asks: Ψ is what the callee's `ensures` says, which shows φ
 -- Assumes `Given`, and that the entry meets the callee's contract.

@@ -1,4 +1,5 @@
--- What an update is told as the host hands it in, and a refinement's report as it hands it in and gets it back. Definitions only.
+-- What an update is told as the host hands it in, and a refinement's report as it hands it in and gets it back.
+-- Definitions only.
 use Prim.Native.Nat.{ℕ}
 use mathlib.Core.List.{List, [], _∷_}
 use lib.Ieee.{Float}
@@ -18,7 +19,8 @@ termsFrom n k policyNumber restart iteration = record {
 }
 
 -- the report of these members
-abbrev pub reportFrom : (restarts iterations samples : ℕ) (initial best : Float) (bestRestart repaired used seed : ℕ) → LloydReport
+abbrev pub reportFrom : (restarts iterations samples : ℕ) (initial best : Float) (bestRestart repaired used seed : ℕ)
+    → LloydReport
 reportFrom restarts iterations samples initial best bestRestart repaired used seed = record {
   restarts = restarts;
   iterations = iterations;
@@ -37,7 +39,8 @@ errorsIn r = real (r .«init_mse») ∷ real (r .«best_mse») ∷ []
 
 -- its other members
 unfoldable pub membersOf : LloydReport → List ℕ
-membersOf r = r .restarts ∷ r .iterations ∷ r .«training_samples» ∷ r .«best_restart» ∷ r .«empty_cells_repaired» ∷ r .«events_used» ∷ r .seed ∷ []
+membersOf r = r .restarts ∷ r .iterations ∷ r .«training_samples» ∷ r .«best_restart» ∷ r .«empty_cells_repaired» ∷
+    r .«events_used» ∷ r .seed ∷ []
 
 -- what the room for them holds afterwards
 abbrev pub reportAfter : Outcome LloydReport → List ℕ → List ℕ

@@ -1,4 +1,5 @@
--- Rounding does not pass a value that the format holds: where a / c is such a value, a fraction of at most a / c rounds to
+-- Rounding does not pass a value that the format holds: where a / c is such a value, a fraction of at most a / c rounds
+-- to
 -- a finite float of size at most a / c. And so for sums, differences, products and quotients: for each a law `-below` (by
 -- what the bound rounds to), and from it one for bounds that are whole numbers of the format. Assumes nothing.
 use mathlib.Core.Path.{_≡_, refl, sym, ap, _∙_, subst}

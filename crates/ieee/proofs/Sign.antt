@@ -1,4 +1,5 @@
--- Squares, and sums of what is not negative, are not negative; and to add what is not negative makes nothing smaller. Assumes nothing.
+-- Squares, and sums of what is not negative, are not negative; and to add what is not negative makes nothing smaller.
+-- Assumes nothing.
 use mathlib.Core.Path.{_≡_, refl, sym, ap, _∙_, subst}
 use Prim.Native.Nat.{ℕ, zero, suc, _+_, _*_, _≤_, _<_}
 use native.Mathlib.Nat.{le-trans, le-of-eq, le-step, lt-suc-self, le-add-right, le-add-left, mul-assoc, mul-comm, mul-le-mul-right, mul-pos}

@@ -1,4 +1,5 @@
--- Whole numbers as floats, up to 2 ^ prec, have their own value; and a float's value bounds its size from both sides. Assumes nothing.
+-- Whole numbers as floats, up to 2 ^ prec, have their own value; and a float's value bounds its size from both sides.
+-- Assumes nothing.
 use mathlib.Core.Path.{sym}
 use mathlib.Core.Bool.{Bool, false}
 use Prim.Native.Nat.{ℕ, _^_, _≤_}

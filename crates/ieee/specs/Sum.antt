@@ -1,4 +1,5 @@
--- The square of a difference, and a sum as every sum of this library is made: from +0, its terms in order, each addition rounded to binary64. Definitions only.
+-- The square of a difference, and a sum as every sum of this library is made: from +0, its terms in order, each
+-- addition rounded to binary64. Definitions only.
 use Prim.Native.Nat.{ℕ, zero, suc}
 use mathlib.Core.Bool.{false}
 use lib.IntN.{pos}

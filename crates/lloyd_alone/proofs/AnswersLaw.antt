@@ -1,5 +1,6 @@
 -- What a completed call of nearest or of mean error, alone, has shown: the shapes and the bounds that the checks ask.
--- So every arithmetic result of such a call is finite, and the codeword found is the first of the nearest. In particular the mean is finite: the Rust's refusal of a mean error that is not (NumericalFailure) can't come from it.
+-- So every arithmetic result of such a call is finite, and the codeword found is the first of the nearest. In
+-- particular the mean is finite: the Rust's refusal of a mean error that is not (NumericalFailure) can't come from it.
 -- Assumes nothing.
 use mathlib.Core.Path.{_≡_, subst}
 use Prim.Native.Nat.{ℕ, _+_, _*_, _/_, _^_, _≤_, _<_}

@@ -1,4 +1,5 @@
--- Where a block's values are at most 2 ^ 127 in size and its distances are at most 2 ^ 250, the codewords' values are at most 2 ^ 128: a NaN, an infinity or a larger value would show in a distance. Assumes nothing.
+-- Where a block's values are at most 2 ^ 127 in size and its distances are at most 2 ^ 250, the codewords' values are
+-- at most 2 ^ 128: a NaN, an infinity or a larger value would show in a distance. Assumes nothing.
 use mathlib.Core.Path.{_≡_, refl, sym, subst}
 use Prim.Native.Nat.{ℕ, zero, suc, _+_, _-_, _*_, _/_, _%_, _^_, _≤_, _<_}
 use native.Mathlib.Nat.{le-trans, le-of-eq, le-of-lt, lt-of-not-le, not-le-of-lt, lt-of-lt-of-le, le-add-right, le-add-left, mul-one, one-mul, mul-comm, mul-assoc, mul-left-comm, mul-mul-mul-comm, add-mul, mul-pos, mul-le-mul, mul-le-mul-right, le-of-mul-le-mul-right, zero-lt-suc, div-add-mod', div-lt-iff-lt-mul, mod-lt}

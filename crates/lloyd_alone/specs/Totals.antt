@@ -12,7 +12,8 @@ everyFourth d r m = sumTo (λ t. d (t * 4 + r)) m
 -- those four sums added in pairs
 abbrev pub sumOfDistances : (ℕ → Float) → ℕ → Float
 sumOfDistances d m =
-    add binary64 (add binary64 (everyFourth d 0 m) (everyFourth d 1 m)) (add binary64 (everyFourth d 2 m) (everyFourth d 3 m))
+    add binary64 (add binary64 (everyFourth d 0 m) (everyFourth d 1 m))
+    (add binary64 (everyFourth d 2 m) (everyFourth d 3 m))
 
 -- the sums over n distances: of every fourth, and of these
 pub record FiniteTotals (d : ℕ → Float) (n : ℕ) : Type 0 where

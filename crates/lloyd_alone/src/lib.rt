@@ -70,7 +70,8 @@ struct Watched {
 // sum is small, so is every distance, and none is a NaN.
 fn watch_fours(codewords: &[f64], fours: usize, block: &[f64]) -> Watched
     requires { ⌜ (fours * 4 < 2 ^ 64) × (fours * 4 * length (now block) ≤ length (now codewords)) ⌝ }
-    ensures { λ r. ⌜ Watches (length (now (block .entry))) fours (rowOf (length (now (block .entry))) (now (codewords .entry))) (vectorOf (now (block .entry))) r ⌝ }
+    ensures { λ r. ⌜ Watches (length (now (block .entry))) fours
+        (rowOf (length (now (block .entry))) (now (codewords .entry))) (vectorOf (now (block .entry))) r ⌝ }
 {
     let k = block.len();
     let mut best = Found {
@@ -121,7 +122,9 @@ struct Seen {
 // `search` that also tells whether every distance was near; where one was not, the codeword it names may be another.
 fn search_near(codewords: &[f64], n: usize, block: &[f64]) -> Seen
     requires { ⌜ length (now codewords) ≡ n * length (now block) ⌝ }
-    ensures { λ r. ⌜ (r .near ≡ true → Near (length (now (block .entry))) n (rowOf (length (now (block .entry))) (now (codewords .entry))) (vectorOf (now (block .entry))) (r .best)) ⌝ }
+    ensures { λ r. ⌜ (r .near ≡ true
+        → Near (length (now (block .entry))) n (rowOf (length (now (block .entry))) (now (codewords .entry)))
+        (vectorOf (now (block .entry))) (r .best)) ⌝ }
 {
     let k = block.len();
     let watched = watch_fours(codewords, n / 4, block);
@@ -162,7 +165,8 @@ pub fn nearest_index(
     block_dim: u64,
     block: &[f64],
 ) -> NearestCodeword
-    ensures { λ r. ⌜ nearestOf r ≡ nearestAlone «codebook_size» «block_dim» (now (codewords .entry)) (now (block .entry)) ⌝ }
+    ensures { λ r. ⌜ nearestOf r
+        ≡ nearestAlone «codebook_size» «block_dim» (now (codewords .entry)) (now (block .entry)) ⌝ }
 {
     if !lloyd_search::codebook_shaped(codebook_size, block_dim, codewords.len()) {
         return NearestCodeword::Refused(Refusal::SliceLength(names::CODEWORDS_SLICE));
@@ -199,7 +203,8 @@ pub fn mse_for_codebook(
     block_dim: u64,
     samples: &[f64],
 ) -> CodebookError
-    ensures { λ r. ⌜ codebookErrorOf r ≡ meanErrorAlone «codebook_size» «block_dim» (now (codewords .entry)) (now (samples .entry)) ⌝ }
+    ensures { λ r. ⌜ codebookErrorOf r
+        ≡ meanErrorAlone «codebook_size» «block_dim» (now (codewords .entry)) (now (samples .entry)) ⌝ }
 {
     if !lloyd_search::codebook_shaped(codebook_size, block_dim, codewords.len()) {
         return CodebookError::Refused(Refusal::SliceLength(names::CODEWORDS_SLICE));

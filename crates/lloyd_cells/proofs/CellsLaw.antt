@@ -1,4 +1,5 @@
--- What the samples of a cell add up to: counts, sums and farthest samples. One sample more, the counts of all cells together, and what the farthest sample is.
+-- What the samples of a cell add up to: counts, sums and farthest samples. One sample more, the counts of all cells
+-- together, and what the farthest sample is.
 -- Assumes nothing.
 use mathlib.Core.Path.{_≡_, refl, sym, ap, _∙_, subst}
 use mathlib.Core.Logic.{_⊎_, inl, inr}

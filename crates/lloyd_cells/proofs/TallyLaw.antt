@@ -1,4 +1,5 @@
--- What the repairs do to the tallies: empty cells are filled in their turn, no cell falls to 0, the total stays; an event for each empty cell. With as many samples as cells there is always a donor.
+-- What the repairs do to the tallies: empty cells are filled in their turn, no cell falls to 0, the total stays; an
+-- event for each empty cell. With as many samples as cells there is always a donor.
 -- Assumes nothing.
 use mathlib.Core.Path.{_≡_, refl, sym, ap, _∙_, subst}
 use mathlib.Core.Logic.{_⊎_, inl, inr}

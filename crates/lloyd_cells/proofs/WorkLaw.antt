@@ -1,4 +1,5 @@
--- How the lent work holds the cells of an update: a sample joins its cell, sums become means, a donor is split for an empty cell. Each step keeps what the work means, and leaves the rest alone.
+-- How the lent work holds the cells of an update: a sample joins its cell, sums become means, a donor is split for an
+-- empty cell. Each step keeps what the work means, and leaves the rest alone.
 -- Assumes nothing.
 use mathlib.Core.Path.{_≡_, refl, sym, ap, _∙_, subst}
 use mathlib.Core.Logic.{_⊎_, inl, inr}

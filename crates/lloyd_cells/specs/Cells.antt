@@ -1,4 +1,5 @@
--- Lloyd's step: what the samples of a cell add up to. `a s` is the cell of sample s; every sum is over the first n samples. Definitions only.
+-- Lloyd's step: what the samples of a cell add up to. `a s` is the cell of sample s; every sum is over the first n
+-- samples. Definitions only.
 use mathlib.Core.Path.{_≡_}
 use Prim.Native.Nat.{ℕ, zero, suc, _+_, _<_}
 use mathlib.Core.Bool.{Bool, true, false, not, _&&_, cond}
@@ -30,9 +31,12 @@ pub record Farthest : Type 0 where
 -- the first of the farthest samples of cell c, by the distances d; from distance -1, below every distance
 unfoldable pub farthest : (ℕ → ℕ) → (ℕ → Float) → ℕ → ℕ → Farthest
 farthest a d c zero = record { sample = 0; distance = fin true 1 (pos 0) }
-farthest a d c (suc n) = cond (eqb (a n) c && lt (farthest a d c n .distance) (d n)) (record { sample = n; distance = d n }) (farthest a d c n)
+farthest a d c (suc n) =
+    cond (eqb (a n) c && lt (farthest a d c n .distance) (d n)) (record { sample = n; distance = d n })
+    (farthest a d c n)
 
--- what is meant by it: a sample of the cell, with its distance; none of the cell is strictly farther, and each earlier one of the cell is strictly nearer
+-- what is meant by it: a sample of the cell, with its distance; none of the cell is strictly farther, and each earlier
+-- one of the cell is strictly nearer
 pub record FirstFarthest (a : ℕ → ℕ) (d : ℕ → Float) (c n : ℕ) (r : Farthest) : Type 0 where
   pub within : r .sample < n
   pub member : a (r .sample) ≡ c

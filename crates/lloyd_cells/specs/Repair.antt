@@ -16,13 +16,15 @@ use Rattle.lloyd_search.specs.Distance.{distance}
 use Rattle.lloyd_events.specs.declared.LloydRepairEvent.{LloydRepairEvent}
 use Rattle.lloyd_cells.specs.Cells.{total}
 
--- The cells of an update: codewords by cell and coordinate, tallies and distortions. A cell's tally is document 01's: its samples, less those given away, plus one if filled.
+-- The cells of an update: codewords by cell and coordinate, tallies and distortions. A cell's tally is document 01's:
+-- its samples, less those given away, plus one if filled.
 pub record Cells : Type 0 where
   pub word : ℕ → ℕ → Float
   pub tally : ℕ → ℕ
   pub distortion : ℕ → Float
 
--- what an update is given beside samples and codebook: coordinates, cells, the restart and iteration that its events bear, free event slots, and the slots that refusal 19 shows
+-- what an update is given beside samples and codebook: coordinates, cells, the restart and iteration that its events
+-- bear, free event slots, and the slots that refusal 19 shows
 pub record Terms : Type 0 where
   pub dim : ℕ
   pub cells : ℕ
@@ -40,7 +42,8 @@ unfoldable pub donorTo : (ℕ → ℕ) → (ℕ → Float) → ℕ → First
 donorTo t d zero = Nowhere
 donorTo t d (suc n) = cond (ltb 1 (t n)) (orLarger d n (donorTo t d n)) (donorTo t d n)
 
--- what is meant by it: cell c has tally above 1; no such cell has a larger distortion, and each later one has a strictly smaller
+-- what is meant by it: cell c has tally above 1; no such cell has a larger distortion, and each later one has a
+-- strictly smaller
 pub record LastLargest (t : ℕ → ℕ) (d : ℕ → Float) (n c : ℕ) : Type 0 where
   pub within : c < n
   pub plenty : 1 < t c
@@ -63,7 +66,8 @@ residualNorm k far word = sqrtOf binary64 (distance k far word)
 abbrev pub shift : Float → Float → Float → Float
 shift far word norm = mul binary64 epsilon (div binary64 (sub binary64 far word) norm)
 
--- The donor c gives a sample to the empty cell e: their codewords part along the residual, c's tally falls by 1, e's becomes 1, both distortions become 0.
+-- The donor c gives a sample to the empty cell e: their codewords part along the residual, c's tally falls by 1, e's
+-- becomes 1, both distortions become 0.
 abbrev pub split : ℕ → (ℕ → Float) → Float → Cells → ℕ → ℕ → Cells
 split k far norm st c e = record {
   word = λ i j.
@@ -98,7 +102,11 @@ repairBy t far e r (At c) =
     let norm = residualNorm (t .dim) (far c) (r .cells .word c) in
     cond (le norm leastNorm) (refused 16 (whole c ∷ []))
     (cond (leb (t .free) (length (r .events))) (refused 19 (whole (t .shown) ∷ []))
-    (completed (record { cells = split (t .dim) (far c) norm (r .cells) c e; events = r .events ++ (eventOf t (r .cells) c e norm ∷ []) })))
+    (completed (record {
+      cells = split (t .dim) (far c) norm (r .cells) c e;
+      events =
+          r .events ++ (eventOf t (r .cells) c e norm ∷ []);
+    })))
 
 abbrev pub repairCell : Terms → (ℕ → ℕ → Float) → ℕ → Repaired → Outcome Repaired
 repairCell t far e r = repairBy t far e r (donorTo (r .cells .tally) (r .cells .distortion) (t .cells))
@@ -112,7 +120,8 @@ unfoldable pub repairTo : Terms → (ℕ → ℕ → Float) → Cells → ℕ �
 repairTo t far st zero = completed (record { cells = st; events = [] })
 repairTo t far st (suc e) = andThen (repairTo t far st e) (turn t far e)
 
--- What the repairs of the first e of n cells make of the tallies t: an empty cell stands at 1 once its turn has come, and at 0 before; any other may have given samples away, and keeps one; none is lost
+-- What the repairs of the first e of n cells make of the tallies t: an empty cell stands at 1 once its turn has come,
+-- and at 0 before; any other may have given samples away, and keeps one; none is lost
 pub record Tallied (n e : ℕ) (t after : ℕ → ℕ) : Type 0 where
   pub filled : (i : ℕ) → i < e → t i ≡ 0 → after i ≡ 1
   pub empty : (i : ℕ) → e ≤ i → t i ≡ 0 → after i ≡ 0

@@ -21,7 +21,8 @@ module _ (k S : ℕ) (x : ℕ → ℕ → Float) (a : ℕ → ℕ) (old : ℕ �
   -- A cell with samples gets their mean, sum / count; its distortion is the sum of its samples' old distances.
   abbrev pub means : Cells
   means = record {
-    word = λ c j. cond (ltb 0 (countTo a c S)) (div binary64 (cellSum a (λ s. x s j) c S) (ofInt binary64 (pos (countTo a c S)))) (old c j);
+    word = λ c j. cond (ltb 0 (countTo a c S))
+        (div binary64 (cellSum a (λ s. x s j) c S) (ofInt binary64 (pos (countTo a c S)))) (old c j);
     tally = λ c. countTo a c S;
     distortion = λ c. cellSum a oldDistance c S;
   }
@@ -42,4 +43,5 @@ unfoldable pub updated : Terms → EmptyCellPolicy → ℕ → (ℕ → ℕ → 
 updated t policy S x a old =
     let start = means (t .dim) S x a old in
     let none = emptyCells (start .tally) (t .cells) in
-    cond (failsClosed policy && ltb 0 none) (refused 14 (whole none ∷ [])) (repairTo t (farthestSample (t .dim) S x a old) start (t .cells))
+    cond (failsClosed policy && ltb 0 none) (refused 14 (whole none ∷ []))
+    (repairTo t (farthestSample (t .dim) S x a old) start (t .cells))

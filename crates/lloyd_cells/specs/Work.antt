@@ -18,7 +18,8 @@ use Rattle.lloyd_cells.specs.Repair.{Cells, shift}
 abbrev pub placesAt : ℕ → ℕ → ℕ → Places
 placesAt words distortions n = record { words = words; distortions = distortions; farthest = distortions + n }
 
--- the three parts of the float work stand in this order, within its length: n * k words, n distortions, n farthest distances
+-- the three parts of the float work stand in this order, within its length: n * k words, n distortions, n farthest
+-- distances
 pub record Fit (p : Places) (n k L : ℕ) : Type 0 where
   pub some : 0 < k
   pub words : p .words + n * k ≤ p .distortions
@@ -32,7 +33,8 @@ pub record Kept (p : Places) (n k : ℕ) (before after : List Float) : Type 0 wh
   pub between : (i : ℕ) → p .words + n * k ≤ i → i < p .distortions → getD after i nan ≡ getD before i nan
 
 -- the first s samples x, with distances d, are added up in their cells a
-pub record Gathered (p : Places) (n k : ℕ) (a : ℕ → ℕ) (x : ℕ → ℕ → Float) (d : ℕ → Float) (s : ℕ) (work : List Float) (counts : List ℕ) : Type 0 where
+pub record Gathered (p : Places) (n k : ℕ) (a : ℕ → ℕ) (x : ℕ → ℕ → Float) (d : ℕ → Float) (s : ℕ) (work : List Float)
+    (counts : List ℕ) : Type 0 where
   pub tally : (c : ℕ) → c < n → getD counts c 0 ≡ countTo a c s
   pub sums : (c j : ℕ) → c < n → j < k → getD work (p .words + (c * k + j)) nan ≡ cellSum a (λ m. x m j) c s
   pub distortions : (c : ℕ) → c < n → getD work (p .distortions + c) nan ≡ cellSum a d c s
@@ -49,7 +51,8 @@ pub record Held (p : Places) (n k : ℕ) (st : Cells) (work : List Float) (count
 -- float work w after a sample of k coordinates, at distance d, joins a cell
 abbrev pub gatherWork : Places → ℕ → ℕ → List Float → Float → List Float → List Float
 gatherWork p k cell sample d w =
-    let w1 = patched w (p .words + cell * k) k (λ j. add binary64 (getD w (p .words + cell * k + j) nan) (vectorOf sample j)) in
+    let w1 = patched w (p .words + cell * k) k
+    (λ j. add binary64 (getD w (p .words + cell * k + j) nan) (vectorOf sample j)) in
     let w2 = set w1 (p .distortions + cell) (add binary64 (getD w1 (p .distortions + cell) nan) d) in
     cond (lt (getD w2 (p .farthest + cell) nan) d) (set w2 (p .farthest + cell) d) w2
 
@@ -58,14 +61,18 @@ unfoldable pub meansTo : Places → ℕ → List ℕ → List Float → ℕ → 
 meansTo p k counts w zero = w
 meansTo p k counts w (suc i) =
     let v = meansTo p k counts w i in
-    cond (ltb 0 (getD counts i 0)) (patched v (p .words + i * k) k (λ j. div binary64 (getD v (p .words + i * k + j) nan) (ofInt binary64 (pos (getD counts i 0))))) v
+    cond (ltb 0 (getD counts i 0))
+    (patched v (p .words + i * k) k
+    (λ j. div binary64 (getD v (p .words + i * k + j) nan) (ofInt binary64 (pos (getD counts i 0))))) v
 
 -- float work w, and the counts, after the donor c is split for the empty cell e
 abbrev pub splitWork : Places → ℕ → ℕ → ℕ → List Float → Float → List Float → List Float
 splitWork p k c e far norm w =
     let at = p .words + c * k in
-    let w1 = patched w (p .words + e * k) k (λ j. add binary64 (getD w (at + j) nan) (shift (vectorOf far j) (getD w (at + j) nan) norm)) in
-    let w2 = patched w1 at k (λ j. sub binary64 (getD w1 (at + j) nan) (shift (vectorOf far j) (getD w1 (at + j) nan) norm)) in
+    let w1 = patched w (p .words + e * k) k
+    (λ j. add binary64 (getD w (at + j) nan) (shift (vectorOf far j) (getD w (at + j) nan) norm)) in
+    let w2 = patched w1 at k
+    (λ j. sub binary64 (getD w1 (at + j) nan) (shift (vectorOf far j) (getD w1 (at + j) nan) norm)) in
     set (set w2 (p .distortions + c) plusZero) (p .distortions + e) plusZero
 
 abbrev pub splitCounts : ℕ → ℕ → List ℕ → List ℕ

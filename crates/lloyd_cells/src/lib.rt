@@ -39,7 +39,9 @@ pub const DONOR_SPLIT_EPSILON: f64 = 1.0e-6;
 // A sample is added to the values from `at` on.
 pub fn add_to(work: &mut [f64], at: usize, sample: &[f64])
     requires { ⌜ at + length (now sample) ≤ length (now work) ⌝ }
-    ensures { λ r. ⌜ now (work .exit) ≡ patched (now (work .entry)) at (length (now (sample .entry))) (λ j. add binary64 (getD (now (work .entry)) (at + j) nan) (vectorOf (now (sample .entry)) j)) ⌝ }
+    ensures { λ r. ⌜ now (work .exit)
+        ≡ patched (now (work .entry)) at (length (now (sample .entry)))
+        (λ j. add binary64 (getD (now (work .entry)) (at + j) nan) (vectorOf (now (sample .entry)) j)) ⌝ }
 {
     let mut j = 0usize;
     let mut i = at;
@@ -53,7 +55,9 @@ pub fn add_to(work: &mut [f64], at: usize, sample: &[f64])
 // The k values from `at` on are divided by the count.
 pub fn divide(work: &mut [f64], at: usize, k: usize, count: u32)
     requires { ⌜ at + k ≤ length (now work) ⌝ }
-    ensures { λ r. ⌜ now (work .exit) ≡ patched (now (work .entry)) at k (λ j. div binary64 (getD (now (work .entry)) (at + j) nan) (ofInt binary64 (pos count))) ⌝ }
+    ensures { λ r. ⌜ now (work .exit)
+        ≡ patched (now (work .entry)) at k
+        (λ j. div binary64 (getD (now (work .entry)) (at + j) nan) (ofInt binary64 (pos count))) ⌝ }
 {
     let divisor = count as f64;
     let mut j = 0usize;
@@ -68,7 +72,8 @@ pub fn divide(work: &mut [f64], at: usize, k: usize, count: u32)
 // The cell of tally above 1 with the largest distortion, the last of equals.
 pub fn choose_donor(counts: &[u32], n: usize, work: &[f64], distortions: usize) -> First
     requires { ⌜ (n ≤ length (now counts)) × (distortions + n ≤ length (now work)) ⌝ }
-    ensures { λ r. ⌜ r ≡ donorTo (λ c. getD (now (counts .entry)) c 0) (λ c. getD (now (work .entry)) (distortions + c) nan) n ⌝ }
+    ensures { λ r. ⌜ r ≡ donorTo (λ c. getD (now (counts .entry)) c 0)
+        (λ c. getD (now (work .entry)) (distortions + c) nan) n ⌝ }
 {
     // n and -infinity, below every distortion, while there is none
     let mut best = n;
@@ -102,8 +107,12 @@ fn shift_of(far: f64, word: f64, norm: f64) -> f64
 
 // The empty cell's codeword: the donor's, moved towards its farthest sample.
 pub fn move_to(work: &mut [f64], donor: usize, empty: usize, far: &[f64], norm: f64)
-    requires { ⌜ (donor + length (now far) ≤ length (now work)) × (empty + length (now far) ≤ length (now work)) × ((empty + length (now far) ≤ donor) ⊎ (donor + length (now far) ≤ empty)) ⌝ }
-    ensures { λ r. ⌜ now (work .exit) ≡ patched (now (work .entry)) empty (length (now (far .entry))) (λ j. add binary64 (getD (now (work .entry)) (donor + j) nan) (shift (vectorOf (now (far .entry)) j) (getD (now (work .entry)) (donor + j) nan) norm)) ⌝ }
+    requires { ⌜ (donor + length (now far) ≤ length (now work)) × (empty + length (now far) ≤ length (now work))
+        × ((empty + length (now far) ≤ donor) ⊎ (donor + length (now far) ≤ empty)) ⌝ }
+    ensures { λ r. ⌜ now (work .exit)
+        ≡ patched (now (work .entry)) empty (length (now (far .entry)))
+        (λ j. add binary64 (getD (now (work .entry)) (donor + j) nan)
+        (shift (vectorOf (now (far .entry)) j) (getD (now (work .entry)) (donor + j) nan) norm)) ⌝ }
 {
     let mut j = 0usize;
     let mut d = donor;
@@ -120,7 +129,10 @@ pub fn move_to(work: &mut [f64], donor: usize, empty: usize, far: &[f64], norm: 
 // The donor's own codeword: moved away from its farthest sample.
 pub fn move_back(work: &mut [f64], donor: usize, far: &[f64], norm: f64)
     requires { ⌜ donor + length (now far) ≤ length (now work) ⌝ }
-    ensures { λ r. ⌜ now (work .exit) ≡ patched (now (work .entry)) donor (length (now (far .entry))) (λ j. sub binary64 (getD (now (work .entry)) (donor + j) nan) (shift (vectorOf (now (far .entry)) j) (getD (now (work .entry)) (donor + j) nan) norm)) ⌝ }
+    ensures { λ r. ⌜ now (work .exit)
+        ≡ patched (now (work .entry)) donor (length (now (far .entry)))
+        (λ j. sub binary64 (getD (now (work .entry)) (donor + j) nan)
+        (shift (vectorOf (now (far .entry)) j) (getD (now (work .entry)) (donor + j) nan) norm)) ⌝ }
 {
     let mut j = 0usize;
     let mut d = donor;
@@ -132,7 +144,8 @@ pub fn move_back(work: &mut [f64], donor: usize, far: &[f64], norm: f64)
     }
 }
 
-// One more sample, at distance d from the old codeword of its cell. Answers whether it is the farthest of its cell so far.
+// One more sample, at distance d from the old codeword of its cell. Answers whether it is the farthest of its cell so
+// far.
 pub fn gather(
     work: &mut [f64],
     counts: &mut [u32],
@@ -142,10 +155,13 @@ pub fn gather(
     sample: &[f64],
     d: f64,
 ) -> bool
-    requires { ⌜ (cell < n) × (n ≤ length (now counts)) × (getD (now counts) cell 0 + 1 < 2 ^ 32) × Fit p n (length (now sample)) (length (now work)) ⌝ }
+    requires { ⌜ (cell < n) × (n ≤ length (now counts)) × (getD (now counts) cell 0 + 1 < 2 ^ 32)
+        × Fit p n (length (now sample)) (length (now work)) ⌝ }
     ensures far { λ r. ⌜ r ≡ lt (getD (now (work .entry)) (p .farthest + cell) nan) d ⌝ }
-    ensures work { λ r. ⌜ now (work .exit) ≡ gatherWork p (length (now (sample .entry))) cell (now (sample .entry)) d (now (work .entry)) ⌝ }
-    ensures counts { λ r. ⌜ now (counts .exit) ≡ set (now (counts .entry)) cell (getD (now (counts .entry)) cell 0 + 1) ⌝ }
+    ensures work { λ r. ⌜ now (work .exit)
+        ≡ gatherWork p (length (now (sample .entry))) cell (now (sample .entry)) d (now (work .entry)) ⌝ }
+    ensures counts { λ r. ⌜ now (counts .exit)
+        ≡ set (now (counts .entry)) cell (getD (now (counts .entry)) cell 0 + 1) ⌝ }
 {
     let at = p.words + cell * sample.len();
     add_to(&mut *work, at, sample);
@@ -181,7 +197,8 @@ pub fn means(work: &mut [f64], counts: &[u32], p: Places, n: usize, k: usize)
 // The norm of a donor's residual: its farthest sample less its codeword as it now stands.
 pub fn residual_norm(work: &[f64], at: usize, far: &[f64]) -> f64
     requires { ⌜ at + length (now far) ≤ length (now work) ⌝ }
-    ensures { λ r. ⌜ r ≡ residualNorm (length (now (far .entry))) (vectorOf (now (far .entry))) (λ j. getD (now (work .entry)) (at + j) nan) ⌝ }
+    ensures { λ r. ⌜ r ≡ residualNorm (length (now (far .entry))) (vectorOf (now (far .entry)))
+        (λ j. getD (now (work .entry)) (at + j) nan) ⌝ }
 {
     let end = at + far.len();
     root::sqrt(lloyd_search::squared_distance(far, &work[at..end]))
@@ -198,8 +215,10 @@ pub fn split_cell(
     far: &[f64],
     norm: f64,
 )
-    requires { ⌜ (donor < n) × (empty < n) × (donor ≡ empty → ⊥) × (n ≤ length (now counts)) × (0 < getD (now counts) donor 0) × Fit p n (length (now far)) (length (now work)) ⌝ }
-    ensures work { λ r. ⌜ now (work .exit) ≡ splitWork p (length (now (far .entry))) donor empty (now (far .entry)) norm (now (work .entry)) ⌝ }
+    requires { ⌜ (donor < n) × (empty < n) × (donor ≡ empty → ⊥) × (n ≤ length (now counts))
+        × (0 < getD (now counts) donor 0) × Fit p n (length (now far)) (length (now work)) ⌝ }
+    ensures work { λ r. ⌜ now (work .exit)
+        ≡ splitWork p (length (now (far .entry))) donor empty (now (far .entry)) norm (now (work .entry)) ⌝ }
     ensures counts { λ r. ⌜ now (counts .exit) ≡ splitCounts donor empty (now (counts .entry)) ⌝ }
 {
     let k = far.len();

@@ -1,4 +1,5 @@
--- A call, by the list of what it is handed: what the caller's proof writes of it is this list, the callee's theorem, and what the callee's `ensures` says. It says nothing of the crate.
+-- A call, by the list of what it is handed: what the caller's proof writes of it is this list, the callee's theorem,
+-- and what the callee's `ensures` says. It says nothing of the crate.
 --     Arg              lendA d ys      a `&mut [T]` that the caller holds and lends again.        showA d xs     a `&[T]`.        plainA R x vs     plain data
 --                      besideA F       an entry of the caller's context that the callee is not handed
 --     bufs ks          what the caller holds of them: the entries of its context.        after ks ws     the list, where the slices have the elements ws

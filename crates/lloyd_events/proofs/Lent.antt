@@ -1,4 +1,5 @@
--- A slice that a function holds and lends to the functions that it calls, as one entry of a context, and the rules by which a call is walked. They say nothing of the crate.
+-- A slice that a function holds and lends to the functions that it calls, as one entry of a context, and the rules by
+-- which a call is walked. They say nothing of the crate.
 --     Slice            where a slice lies, its name and its lifetime with a share of that one's token, and its count, which a call does not change
 --     has d ys         the `&mut [T]` d and its token, where its elements are ys.        shows-it d xs     the same of a `&[T]`
 --     lends, backs     d is lent again for a lifetime that is made for a call, and comes back at the elements that the callee left

@@ -1,4 +1,6 @@
--- A function's locals in a walk, in the order in which its MIR numbers them: the head of the context is what the function has of its parameters, as one entry, local i stands at i + 1, and the last entry says that the locals die. It says nothing of the crate.
+-- A function's locals in a walk, in the order in which its MIR numbers them: the head of the context is what the
+-- function has of its parameters, as one entry, local i stands at i + 1, and the last entry says that the locals die.
+-- It says nothing of the crate.
 --     Places, env      where the locals lie.        rooms, dies     room for each, and that each dies
 --     takes            the locals are allocated.        freed     they are freed
 --     cells            the locals where some hold a value

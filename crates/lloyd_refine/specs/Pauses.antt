@@ -39,7 +39,17 @@ reportIn p s = record {
 
 -- the cell whose turn is next, and how many repairs of the round were made
 abbrev pub atCell : ℕ → ℕ → RefineState → RefineState
-atCell next made s = record { restart = s .restart; iteration = s .iteration; next = next; before = s .before; made = made; «init_mse» = s .«init_mse»; «best_mse» = s .«best_mse»; «best_restart» = s .«best_restart» }
+atCell next made s = record {
+  restart = s .restart;
+  iteration = s .iteration;
+  next = next;
+  before = s .before;
+  made =
+      made;
+  «init_mse» = s .«init_mse»;
+  «best_mse» = s .«best_mse»;
+  «best_restart» = s .«best_restart»;
+}
 
 -- what a turn of the repairs makes of a state, member by member
 abbrev pub Paused : FibQuantProfile → RefineState → Turn → Pause → Type 0
@@ -55,10 +65,21 @@ Paused f s (turns.Refused x) p =
 
 -- this restart's end, of error e, is the best so far
 abbrev pub withBest : Float → RefineState → RefineState
-withBest e s = record { restart = s .restart; iteration = s .iteration; next = s .next; before = s .before; made = s .made; «init_mse» = s .«init_mse»; «best_mse» = e; «best_restart» = s .restart }
+withBest e s = record {
+  restart = s .restart;
+  iteration = s .iteration;
+  next = s .next;
+  before = s .before;
+  made =
+      s .made;
+  «init_mse» = s .«init_mse»;
+  «best_mse» = e;
+  «best_restart» = s .restart;
+}
 
 -- every cell of a round has had its turn, and `events` are all events so far
-pub record Over (j : Job) (events : List LloydRepairEvent) (work : List Float) (ints : List ℕ) (s : RefineState) : Type 0 where
+pub record Over (j : Job) (events : List LloydRepairEvent) (work : List Float) (ints : List ℕ)
+    (s : RefineState) : Type 0 where
   pub b : Best
   pub t : Trained
   pub u : Repaired
@@ -68,10 +89,12 @@ pub record Over (j : Job) (events : List LloydRepairEvent) (work : List Float) (
 
 -- a round is over, or the refinement waits or has stopped
 abbrev pub Pausing : Job → List LloydRepairEvent → List Float → List ℕ → Pause → Type 0
-Pausing j events work ints p = (p .over ≡ true → Over j events work ints (p .step .state)) × (p .over ≡ false → RefineProgress j events work ints (p .step))
+Pausing j events work ints p = (p .over ≡ true → Over j events work ints (p .step .state))
+    × (p .over ≡ false → RefineProgress j events work ints (p .step))
 
 -- ---- some refinement stands there
-pub record ReadyIn (p : FibQuantProfile) (samples : List Float) (slots : ℕ) (work : List Float) (ints : List ℕ) (s : RefineState) : Type 0 where
+pub record ReadyIn (p : FibQuantProfile) (samples : List Float) (slots : ℕ) (work : List Float) (ints : List ℕ)
+    (s : RefineState) : Type 0 where
   pub job : Job
   pub b : Best
   pub t : Trained

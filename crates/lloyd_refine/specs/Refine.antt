@@ -1,4 +1,5 @@
--- Refinement: its checks in document 01's order, the rounds of a restart, the restarts, and the codebook of the least error. Definitions only.
+-- Refinement: its checks in document 01's order, the rounds of a restart, the restarts, and the codebook of the least
+-- error. Definitions only.
 use Prim.Native.Nat.{ℕ, zero, suc, _+_, _-_, _*_, _/_, _%_}
 use mathlib.Core.Bool.{false, not, cond}
 use mathlib.Core.List.{List, [], _∷_, _++_}
@@ -86,11 +87,20 @@ refineChecks j = also (validity (j .profile) (j .schema) (j .algorithm) (j .log2
 
 -- round i of restart r, with `used` of the event slots used
 abbrev pub roundTerms : Job → ℕ → ℕ → ℕ → Terms
-roundTerms j r i used = record { dim = dimOf j; cells = sizeOf j; restart = r; iteration = i; free = j .slots - used; shown = j .slots }
+roundTerms j r i used = record {
+  dim = dimOf j;
+  cells = sizeOf j;
+  restart = r;
+  iteration = i;
+  free = j .slots - used;
+  shown = j .slots;
+}
 
 -- a round gives every sample its nearest codeword, then updates
 abbrev pub roundOf : Job → ℕ → ℕ → ℕ → List Float → Outcome Repaired
-roundOf j r i used codebook = updated (roundTerms j r i used) (j .profile .«empty_cell_policy») (countOf j) (rowOf (dimOf j) (j .samples)) (cellOf (dimOf j) (sizeOf j) (countOf j) (j .samples) codebook) (rowOf (dimOf j) codebook)
+roundOf j r i used codebook =
+    updated (roundTerms j r i used) (j .profile .«empty_cell_policy») (countOf j) (rowOf (dimOf j) (j .samples))
+    (cellOf (dimOf j) (sizeOf j) (countOf j) (j .samples) codebook) (rowOf (dimOf j) codebook)
 
 -- a codebook, and the events of all rounds before, those of earlier restarts too
 pub record Trained : Type 0 where
@@ -120,7 +130,8 @@ initialWord j c = take (dimOf j) (drop (c * dimOf j) (j .initial))
 
 -- where restart r starts: the initial codebook, rotated by matrix r where r is not 0
 abbrev pub rotated : Job → ℕ → List Float
-rotated j r = tabulate (sizeOf j * dimOf j) (λ i. appliedAt (dimOf j) (matrixOf j r) (initialWord j (i / dimOf j)) (i % dimOf j))
+rotated j r = tabulate (sizeOf j * dimOf j)
+    (λ i. appliedAt (dimOf j) (matrixOf j r) (initialWord j (i / dimOf j)) (i % dimOf j))
 
 abbrev pub startOf : Job → ℕ → List Float
 startOf j r = cond (eqb r 0) (j .initial) (rotated j r)
@@ -185,7 +196,9 @@ abbrev pub codewordsAfter : Job → List Float → List Float
 codewordsAfter j codewords = leaves (refineChecks j) (refineOf j) codewords (λ b. narrowed (b .codebook)) codewords
 
 abbrev pub workAfter : {A : Type 0} → A → Job → List A → List A
-workAfter nought j work = leaves (refineChecks j) (refineOf j) work (λ b. replicate (length work) nought) (replicate (length work) nought)
+workAfter nought j work =
+    leaves (refineChecks j) (refineOf j) work (λ b. replicate (length work) nought) (replicate (length work) nought)
 
 abbrev pub slotsAfter : Job → List LloydRepairEvent → List LloydRepairEvent
-slotsAfter j slots = leaves (refineChecks j) (refineOf j) slots (λ b. b .events ++ drop (length (b .events)) slots) (replicate (length slots) zeroEvent)
+slotsAfter j slots = leaves (refineChecks j) (refineOf j) slots (λ b. b .events ++ drop (length (b .events)) slots)
+    (replicate (length slots) zeroEvent)

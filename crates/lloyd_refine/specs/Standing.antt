@@ -39,8 +39,10 @@ roundMeans j = meansOf (dimOf j) (sizeOf j) (countOf j) (j .samples)
 abbrev pub roundFar : Job → List Float → ℕ → ℕ → Float
 roundFar j = farOf (dimOf j) (sizeOf j) (countOf j) (j .samples)
 
--- The refinement stands in a round: earlier restarts came to b, earlier rounds of this restart to t, the repairs of this round so far to u.
-pub record InRound (j : Job) (b : Best) (t : Trained) (u : Repaired) (s : RefineState) (work : List Float) (ints : List ℕ) : Type 0 where
+-- The refinement stands in a round: earlier restarts came to b, earlier rounds of this restart to t, the repairs of
+-- this round so far to u.
+pub record InRound (j : Job) (b : Best) (t : Trained) (u : Repaired) (s : RefineState) (work : List Float)
+    (ints : List ℕ) : Type 0 where
   pub checked : refineChecks j ≡ completed tt
   pub floats : length work ≡ j .floatWork
   pub integers : length ints ≡ j .integerWork
@@ -49,8 +51,11 @@ pub record InRound (j : Job) (b : Best) (t : Trained) (u : Repaired) (s : Refine
   pub bests : restartsTo j (s .restart) ≡ completed b
   pub rounds : roundsTo j (s .restart) (trainedFrom j (s .restart) b) (s .iteration) ≡ completed t
   pub repairs : roundOf j (s .restart) (s .iteration) (length (t .events)) (t .codebook)
-      ≡ repairTo (roundTerms j (s .restart) (s .iteration) (length (t .events))) (roundFar j (t .codebook)) (roundMeans j (t .codebook)) (sizeOf j)
-  pub running : Running (placesOf (sizeOf j) (dimOf j)) (numbersOf (sizeOf j)) (roundTerms j (s .restart) (s .iteration) (length (t .events))) (j .samples) (roundFar j (t .codebook)) (roundMeans j (t .codebook)) (s .next) u work ints
+      ≡ repairTo (roundTerms j (s .restart) (s .iteration) (length (t .events))) (roundFar j (t .codebook))
+      (roundMeans j (t .codebook)) (sizeOf j)
+  pub running : Running (placesOf (sizeOf j) (dimOf j)) (numbersOf (sizeOf j))
+      (roundTerms j (s .restart) (s .iteration) (length (t .events))) (j .samples) (roundFar j (t .codebook))
+      (roundMeans j (t .codebook)) (s .next) u work ints
   pub current : Holding (sizeOf j) (dimOf j) 0 (t .codebook) work
   pub kept : Holding (sizeOf j) (dimOf j) (sizeOf j * dimOf j) (b .codebook) work
   pub earlier : s .before ≡ length (t .events)
@@ -60,7 +65,8 @@ pub record InRound (j : Job) (b : Best) (t : Trained) (u : Repaired) (s : Refine
   pub winner : s .«best_restart» ≡ restartOf (b .winner)
 
 -- a repair was made; its event waits to be written after `events`
-pub record Going (j : Job) (events : List LloydRepairEvent) (work : List Float) (ints : List ℕ) (s : RefineStep) : Type 0 where
+pub record Going (j : Job) (events : List LloydRepairEvent) (work : List Float) (ints : List ℕ)
+    (s : RefineStep) : Type 0 where
   pub b : Best
   pub t : Trained
   pub u : Repaired
@@ -72,13 +78,15 @@ pub record Going (j : Job) (events : List LloydRepairEvent) (work : List Float) 
 -- the refinement has come to its end, and `events` are its events
 pub record Ended (j : Job) (events : List LloydRepairEvent) (work : List Float) (s : RefineStep) : Type 0 where
   pub answer : refinementOf (s .answer) ≡ andThen (refinement j) (λ b. completed (reportOf j b))
-  pub done : (b : Best) → refinement j ≡ completed b → (events ≡ b .events) × Holding (sizeOf j) (dimOf j) (sizeOf j * dimOf j) (b .codebook) work
+  pub done : (b : Best) → refinement j ≡ completed b → (events ≡ b .events)
+      × Holding (sizeOf j) (dimOf j) (sizeOf j * dimOf j) (b .codebook) work
   pub begun : s .begun ≡ true → refineChecks j ≡ completed tt
   pub early : s .begun ≡ false → (u : Unit) → refineChecks j ≡ completed u → ⊥
 
 -- either
 abbrev pub RefineProgress : Job → List LloydRepairEvent → List Float → List ℕ → RefineStep → Type 0
-RefineProgress j events work ints s = (s .going ≡ true → Going j events work ints s) × (s .going ≡ false → Ended j events work s)
+RefineProgress j events work ints s = (s .going ≡ true → Going j events work ints s)
+    × (s .going ≡ false → Ended j events work s)
 
 -- what a job was called with
 pub record Matches (j : Job) (p : FibQuantProfile) (start xs ms : List Float) (most : ℕ) : Type 0 where
@@ -89,7 +97,8 @@ pub record Matches (j : Job) (p : FibQuantProfile) (start xs ms : List Float) (m
   pub slots : j .slots ≡ most
 
 -- some refinement is going on
-pub record ReadyRefine (p : FibQuantProfile) (initial samples matrices : List Float) (slots : ℕ) (work : List Float) (ints : List ℕ) (s : RefineStep) : Type 0 where
+pub record ReadyRefine (p : FibQuantProfile) (initial samples matrices : List Float) (slots : ℕ) (work : List Float)
+    (ints : List ℕ) (s : RefineStep) : Type 0 where
   pub job : Job
   pub events : List LloydRepairEvent
   pub matches : Matches job p initial samples matrices slots

@@ -1,5 +1,7 @@
-// The refinement of lloyd.rs: its checks, the repairs of a round, the end of a restart, its own end, and the test of its report.
-// A repair is a value here; the event slots are written in one place above. The public functions but the test of a report are public only for the crates above.
+// The refinement of lloyd.rs: its checks, the repairs of a round, the end of a restart, its own end, and the test of
+// its report.
+// A repair is a value here; the event slots are written in one place above. The public functions but the test of a
+// report are public only for the crates above.
 ghost use mathlib.Core.Path.{_≡_};
 ghost use mathlib.Core.Bool.{true, false, not, _&&_, cond};
 ghost use mathlib.Core.List.{[], _++_};
@@ -65,7 +67,8 @@ pub struct RefineState {
 }
 
 // Where a refinement stands: a repair was made and its event is to be written, or it has stopped with its answer.
-// Nothing reads its answer while it goes on, nor its event and state once it has stopped with its answer: there they are free.
+// Nothing reads its answer while it goes on, nor its event and state once it has stopped with its answer: there they
+// are free.
 pub struct RefineStep {
     pub going: bool,
     // Updating has begun, so that work and event slots are zeroed if it is refused.
@@ -96,7 +99,9 @@ fn check_lengths(
     slots: usize,
 ) -> Checked
     requires { ⌜ Valid profile ⌝ }
-    ensures { λ r. ⌜ checked r ≡ lengthChecks (jobOf profile [] [] nan (now (initial .entry)) (now (samples .entry)) (now (matrices .entry)) codewords floats integers slots) ⌝ }
+    ensures { λ r. ⌜ checked r
+        ≡ lengthChecks (jobOf profile [] [] nan (now (initial .entry)) (now (samples .entry))
+        (now (matrices .entry)) codewords floats integers slots) ⌝ }
 {
     let n = profile.codebook_size as usize;
     let k = profile.block_dim as usize;
@@ -153,7 +158,9 @@ pub fn check_refine(
     integers: usize,
     slots: usize,
 ) -> Checked
-    ensures { λ r. ⌜ checked r ≡ refineChecks (jobOf profile (now (schema .entry)) (now («rotation_algorithm» .entry)) log2 (now (initial .entry)) (now (samples .entry)) (now (matrices .entry)) codewords floats integers slots) ⌝ }
+    ensures { λ r. ⌜ checked r
+        ≡ refineChecks (jobOf profile (now (schema .entry)) (now («rotation_algorithm» .entry)) log2
+        (now (initial .entry)) (now (samples .entry)) (now (matrices .entry)) codewords floats integers slots) ⌝ }
 {
     let valid = profile.validate(schema, rotation_algorithm, log2);
     if let Checked::Refused(refusal) = valid {
@@ -203,7 +210,8 @@ pub fn report(profile: FibQuantProfile, s: RefineState) -> LloydReport
 
 // Stopped with an answer, before updating began or once it has.
 pub fn stop(begun: bool, s: RefineState, answer: Refinement) -> RefineStep
-    ensures { λ r. ⌜ (r .going ≡ false) × (r .begun ≡ begun) × (r .state ≡ s) × (r .answer ≡ answer) × (r .event ≡ zeroEvent) ⌝ }
+    ensures { λ r. ⌜ (r .going ≡ false) × (r .begun ≡ begun) × (r .state ≡ s) × (r .answer ≡ answer)
+        × (r .event ≡ zeroEvent) ⌝ }
 {
     RefineStep {
         going: false,
@@ -246,7 +254,8 @@ fn paused(profile: FibQuantProfile, s: RefineState, turn: Turn) -> Pause
     }
 }
 
-// The repairs of a round from the next cell on, up to the next one that is made, or to the end of the round. What stands in the work beside its codebooks is for the next steps; where it is refused it is left for the end to zero.
+// The repairs of a round from the next cell on, up to the next one that is made, or to the end of the round. What
+// stands in the work beside its codebooks is for the next steps; where it is refused it is left for the end to zero.
 pub fn repair_on(
     samples: &[f64],
     work: &mut [f64],
@@ -256,7 +265,10 @@ pub fn repair_on(
     s: RefineState,
 ) -> Pause
     requires { ⌜ ReadyIn profile (now samples) slots (now work) (now ints) s ⌝ }
-    ensures stands { λ p. ⌜ ((j : Job) (b : Best) (t : Trained) (u : Repaired) → Matches j profile (j .initial) (now (samples .entry)) (j .matrices) slots → InRound j b t u s (now (work .entry)) (now (ints .entry)) → Pausing j (t .events ++ u .events) (now (work .exit)) (now (ints .exit)) p) ⌝ }
+    ensures stands { λ p. ⌜ ((j : Job) (b : Best) (t : Trained) (u : Repaired)
+        → Matches j profile (j .initial) (now (samples .entry)) (j .matrices) slots
+        → InRound j b t u s (now (work .entry)) (now (ints .entry))
+        → Pausing j (t .events ++ u .events) (now (work .exit)) (now (ints .exit)) p) ⌝ }
     ensures round { λ p. ⌜ (p .step .state .restart ≡ s .restart) × (p .step .state .iteration ≡ s .iteration) ⌝ }
 {
     let n = profile.codebook_size as usize;
@@ -294,9 +306,18 @@ pub fn keep_better(
     k: usize,
     s: RefineState,
 ) -> RefineState
-    requires { ⌜ (0 < k) × (0 < length (now samples) / k) × (length (now samples) ≡ length (now samples) / k * k) × (2 * (n * k) ≤ length (now work)) ⌝ }
-    ensures work { λ r. ⌜ now (work .exit) ≡ cond (lt (meanError k n (rowOf k (take (n * k) (now (work .entry)))) (rowOf k (now (samples .entry))) (length (now (samples .entry)) / k)) (s .«best_mse»)) (patched (now (work .entry)) (n * k) (n * k) (λ i. getD (now (work .entry)) (0 + i) nan)) (now (work .entry)) ⌝ }
-    ensures state { λ r. ⌜ r ≡ cond (lt (meanError k n (rowOf k (take (n * k) (now (work .entry)))) (rowOf k (now (samples .entry))) (length (now (samples .entry)) / k)) (s .«best_mse»)) (withBest (meanError k n (rowOf k (take (n * k) (now (work .entry)))) (rowOf k (now (samples .entry))) (length (now (samples .entry)) / k)) s) s ⌝ }
+    requires { ⌜ (0 < k) × (0 < length (now samples) / k) × (length (now samples) ≡ length (now samples) / k * k)
+        × (2 * (n * k) ≤ length (now work)) ⌝ }
+    ensures work { λ r. ⌜ now (work .exit)
+        ≡ cond (lt (meanError k n (rowOf k (take (n * k) (now (work .entry)))) (rowOf k (now (samples .entry)))
+        (length (now (samples .entry)) / k)) (s .«best_mse»))
+        (patched (now (work .entry)) (n * k) (n * k) (λ i. getD (now (work .entry)) (0 + i) nan))
+        (now (work .entry)) ⌝ }
+    ensures state { λ r. ⌜ r
+        ≡ cond (lt (meanError k n (rowOf k (take (n * k) (now (work .entry)))) (rowOf k (now (samples .entry)))
+        (length (now (samples .entry)) / k)) (s .«best_mse»))
+        (withBest (meanError k n (rowOf k (take (n * k) (now (work .entry)))) (rowOf k (now (samples .entry)))
+        (length (now (samples .entry)) / k)) s) s ⌝ }
 {
     let values = n * k;
     let error = lloyd_search::mean_error(&work[..values], n, k, samples);
@@ -309,7 +330,8 @@ pub fn keep_better(
     kept
 }
 
-// The end: an accepted refinement writes the codewords from the best codebook, and work is zeroed once updating has begun.
+// The end: an accepted refinement writes the codewords from the best codebook, and work is zeroed once updating has
+// begun.
 pub fn finish_refine(
     codewords: &mut [f32],
     work: &mut [f64],
@@ -318,9 +340,16 @@ pub fn finish_refine(
 ) -> Refinement
     requires { ⌜ (s .begun ≡ true → 2 * length (now codewords) ≤ length (now work)) ⌝ }
     ensures answer { λ r. ⌜ r ≡ s .answer ⌝ }
-    ensures codewords { λ r. ⌜ now (codewords .exit) ≡ cond (s .begun && isReport (s .answer)) (tabulate (length (now (codewords .entry))) (λ i. narrowTo binary32 (getD (now (work .entry)) (length (now (codewords .entry)) + i) nan))) (now (codewords .entry)) ⌝ }
-    ensures work { λ r. ⌜ now (work .exit) ≡ cond (s .begun) (replicate (length (now (work .entry))) plusZero) (now (work .entry)) ⌝ }
-    ensures ints { λ r. ⌜ now (ints .exit) ≡ cond (s .begun) (replicate (length (now (ints .entry))) 0) (now (ints .entry)) ⌝ }
+    ensures codewords { λ r.
+        ⌜ now (codewords .exit)
+        ≡ cond (s .begun && isReport (s .answer))
+        (tabulate (length (now (codewords .entry)))
+        (λ i. narrowTo binary32 (getD (now (work .entry)) (length (now (codewords .entry)) + i) nan)))
+        (now (codewords .entry)) ⌝ }
+    ensures work { λ r. ⌜ now (work .exit)
+        ≡ cond (s .begun) (replicate (length (now (work .entry))) plusZero) (now (work .entry)) ⌝ }
+    ensures ints { λ r. ⌜ now (ints .exit)
+        ≡ cond (s .begun) (replicate (length (now (ints .entry))) 0) (now (ints .entry)) ⌝ }
 {
     let answer = s.answer;
     if s.begun {

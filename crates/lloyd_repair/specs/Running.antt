@@ -19,11 +19,22 @@ use Rattle.lloyd_repair.specs.declared.Turn.{Turn}
 use Rattle.lloyd_repair.specs.declared.Turn.the-variants.{Repair, Done, Refused}
 
 abbrev pub termsOf : RepairTerms → Terms
-termsOf t = record { dim = t .dim; cells = t .cells; restart = t .restart; iteration = t .iteration; free = t .free; shown = t .shown }
+termsOf t = record {
+  dim = t .dim;
+  cells = t .cells;
+  restart = t .restart;
+  iteration = t .iteration;
+  free = t .free;
+  shown = t .shown;
+}
 
 -- the cells that the work shows
 abbrev pub cellsIn : Places → ℕ → List Float → List ℕ → Cells
-cellsIn p k work ints = record { word = λ c j. getD work (p .words + (c * k + j)) nan; tally = λ c. getD ints c 0; distortion = λ c. getD work (p .distortions + c) nan }
+cellsIn p k work ints = record {
+  word = λ c j. getD work (p .words + (c * k + j)) nan;
+  tally = λ c. getD ints c 0;
+  distortion = λ c. getD work (p .distortions + c) nan;
+}
 
 abbrev pub NumberIs : Bool → Float → ℕ → ℕ → Type 0
 NumberIs true x i s = (x ≡ ofInt binary64 (pos s)) × (s < 2 ^ 53)
@@ -31,10 +42,12 @@ NumberIs false x i s = i ≡ s
 
 -- s is the number that is held for a cell: in the float work, as a whole number, or in the integer work
 abbrev pub NumberAt : Numbers → List Float → List ℕ → ℕ → ℕ → Type 0
-NumberAt m work ints cell s = NumberIs (m .«in_floats») (getD work (m .start + cell) nan) (getD ints (m .start + cell) 0) s
+NumberAt m work ints cell s =
+    NumberIs (m .«in_floats») (getD work (m .start + cell) nan) (getD ints (m .start + cell) 0) s
 
 -- the sample of that number is the farthest of its cell, whose coordinates are `far`
-pub record HoldsFarthest (m : Numbers) (k : ℕ) (samples : List Float) (far : ℕ → Float) (cell : ℕ) (work : List Float) (ints : List ℕ) : Type 0 where
+pub record HoldsFarthest (m : Numbers) (k : ℕ) (samples : List Float) (far : ℕ → Float) (cell : ℕ) (work : List Float)
+    (ints : List ℕ) : Type 0 where
   pub number : ℕ
   pub at : NumberAt m work ints cell number
   pub inside : suc number * k ≤ length samples
@@ -46,7 +59,8 @@ NumbersFit true at p n k L = (p .words + n * k ≤ at) × (at + n ≤ p .distort
 NumbersFit false at p n k L = (n ≤ at) × (at + n ≤ L)
 
 -- the cells below `next` have had their turn, which came to r, and the work holds it
-pub record Running (p : Places) (m : Numbers) (t : Terms) (samples : List Float) (far : ℕ → ℕ → Float) (start : Cells) (next : ℕ) (r : Repaired) (work : List Float) (ints : List ℕ) : Type 0 where
+pub record Running (p : Places) (m : Numbers) (t : Terms) (samples : List Float) (far : ℕ → ℕ → Float) (start : Cells)
+    (next : ℕ) (r : Repaired) (work : List Float) (ints : List ℕ) : Type 0 where
   pub fit : Fit p (t .cells) (t .dim) (length work)
   pub small : t .cells ≤ 1048576
   pub counts : t .cells ≤ length ints
@@ -57,7 +71,8 @@ pub record Running (p : Places) (m : Numbers) (t : Terms) (samples : List Float)
   pub farthest : (c : ℕ) → c < t .cells → 1 < r .cells .tally c → HoldsFarthest m (t .dim) samples (far c) c work ints
 
 -- some repairs are under way
-pub record ReadyRepairs (p : Places) (m : Numbers) (t : Terms) (samples : List Float) (used next : ℕ) (work : List Float) (ints : List ℕ) : Type 0 where
+pub record ReadyRepairs (p : Places) (m : Numbers) (t : Terms) (samples : List Float) (used next : ℕ)
+    (work : List Float) (ints : List ℕ) : Type 0 where
   pub far : ℕ → ℕ → Float
   pub start : Cells
   pub r : Repaired
@@ -65,13 +80,16 @@ pub record ReadyRepairs (p : Places) (m : Numbers) (t : Terms) (samples : List F
   pub running : Running p m t samples far start next r work ints
 
 -- one repair more, with its event
-pub record OneMore (p : Places) (m : Numbers) (t : Terms) (samples : List Float) (far : ℕ → ℕ → Float) (start : Cells) (r : Repaired) (e : LloydRepairEvent) (next : ℕ) (work : List Float) (ints : List ℕ) : Type 0 where
+pub record OneMore (p : Places) (m : Numbers) (t : Terms) (samples : List Float) (far : ℕ → ℕ → Float) (start : Cells)
+    (r : Repaired) (e : LloydRepairEvent) (next : ℕ) (work : List Float) (ints : List ℕ) : Type 0 where
   pub after : Repaired
   pub event : after .events ≡ r .events ++ (e ∷ [])
   pub running : Running p m t samples far start next after work ints
 
--- What a turn says of the repairs that came to r before it, by its answer. In every case it leaves the float work below the words alone.
-module _ (p : Places) (m : Numbers) (t : Terms) (samples : List Float) (far : ℕ → ℕ → Float) (start : Cells) (r : Repaired) (work : List Float) (ints : List ℕ) where
+-- What a turn says of the repairs that came to r before it, by its answer. In every case it leaves the float work below
+-- the words alone.
+module _ (p : Places) (m : Numbers) (t : Terms) (samples : List Float) (far : ℕ → ℕ → Float) (start : Cells)
+    (r : Repaired) (work : List Float) (ints : List ℕ) where
   abbrev pub Turned : Turn → Type 0
   Turned (Repair e next) = OneMore p m t samples far start r e next work ints
   Turned Done = (repairTo t far start (t .cells) ≡ completed r) × Running p m t samples far start (t .cells) r work ints

@@ -21,7 +21,8 @@ pub struct Numbers {
     pub in_floats: bool,
 }
 
-// What the repairs of an update are told: coordinates and cells, what their events bear, free slots, and the slots that a refusal shows.
+// What the repairs of an update are told: coordinates and cells, what their events bear, free slots, and the slots that
+// a refusal shows.
 pub struct RepairTerms {
     pub dim: usize,
     pub cells: usize,
@@ -41,7 +42,8 @@ pub enum Turn {
 // The number that is held for a cell.
 fn number_at(work: &[f64], ints: &[u32], at: usize, in_floats: bool) -> usize
     requires { ⌜ Numbered «in_floats» at (now work) (now ints) ⌝ }
-    ensures { λ r. ⌜ ((s : ℕ) → NumberIs «in_floats» (getD (now (work .entry)) at nan) (getD (now (ints .entry)) at 0) s → r ≡ s) ⌝ }
+    ensures { λ r. ⌜ ((s : ℕ) → NumberIs «in_floats» (getD (now (work .entry)) at nan) (getD (now (ints .entry)) at 0) s
+        → r ≡ s) ⌝ }
 {
     if in_floats {
         std::num::truncating_f64_to_u64(work[at]) as usize
@@ -53,7 +55,8 @@ fn number_at(work: &[f64], ints: &[u32], at: usize, in_floats: bool) -> usize
 // The first empty cell from `from` on, or n.
 fn next_empty(counts: &[u32], n: usize, from: usize) -> usize
     requires { ⌜ (n ≤ length (now counts)) × (from ≤ n) ⌝ }
-    ensures { λ r. ⌜ (from ≤ r) × (r ≤ n) × ((c : ℕ) → from ≤ c → c < r → getD (now (counts .entry)) c 0 ≡ 0 → ⊥) × (r < n → getD (now (counts .entry)) r 0 ≡ 0) ⌝ }
+    ensures { λ r. ⌜ (from ≤ r) × (r ≤ n) × ((c : ℕ) → from ≤ c → c < r → getD (now (counts .entry)) c 0 ≡ 0 → ⊥)
+        × (r < n → getD (now (counts .entry)) r 0 ≡ 0) ⌝ }
 {
     let mut c = from;
     while c < n {
@@ -76,9 +79,13 @@ fn fill(
     far: &[f64],
     norm: f64,
 ) -> LloydRepairEvent
-    requires { ⌜ (donor < t .cells) × (e < t .cells) × (donor ≡ e → ⊥) × (t .cells ≤ length (now ints)) × (0 < getD (now ints) donor 0) × Fit p (t .cells) (length (now far)) (length (now work)) × (t .cells ≤ 1048576) ⌝ }
-    ensures event { λ o. ⌜ o ≡ eventOf (termsOf t) (cellsIn p (t .dim) (now (work .entry)) (now (ints .entry))) donor e norm ⌝ }
-    ensures work { λ o. ⌜ now (work .exit) ≡ splitWork p (length (now (far .entry))) donor e (now (far .entry)) norm (now (work .entry)) ⌝ }
+    requires { ⌜ (donor < t .cells) × (e < t .cells) × (donor ≡ e → ⊥) × (t .cells ≤ length (now ints))
+        × (0 < getD (now ints) donor 0) × Fit p (t .cells) (length (now far)) (length (now work))
+        × (t .cells ≤ 1048576) ⌝ }
+    ensures event { λ o. ⌜ o
+        ≡ eventOf (termsOf t) (cellsIn p (t .dim) (now (work .entry)) (now (ints .entry))) donor e norm ⌝ }
+    ensures work { λ o. ⌜ now (work .exit)
+        ≡ splitWork p (length (now (far .entry))) donor e (now (far .entry)) norm (now (work .entry)) ⌝ }
     ensures counts { λ o. ⌜ now (ints .exit) ≡ splitCounts donor e (now (ints .entry)) ⌝ }
 {
     let place = p.distortions + donor;
@@ -111,7 +118,9 @@ fn repair_from(
 ) -> Turn
     requires ready { ⌜ ReadyRepairs p m (termsOf t) (now samples) used e (now work) (now ints) ⌝ }
     requires chosen { ⌜ Chosen p (termsOf t) e donor (now work) (now ints) ⌝ }
-    ensures turned { λ o. ⌜ ((far : ℕ → ℕ → Float) (start : Cells) (r : Repaired) → length (r .events) ≡ used → Running p m (termsOf t) (now (samples .entry)) far start e r (now (work .entry)) (now (ints .entry)) → Turned p m (termsOf t) (now (samples .entry)) far start r (now (work .exit)) (now (ints .exit)) o) ⌝ }
+    ensures turned { λ o. ⌜ ((far : ℕ → ℕ → Float) (start : Cells) (r : Repaired) → length (r .events) ≡ used
+        → Running p m (termsOf t) (now (samples .entry)) far start e r (now (work .entry)) (now (ints .entry))
+        → Turned p m (termsOf t) (now (samples .entry)) far start r (now (work .exit)) (now (ints .exit)) o) ⌝ }
     ensures kept { λ o. ⌜ Kept p (t .cells) (t .dim) (now (work .entry)) (now (work .exit)) ⌝ }
     ensures ints { λ o. ⌜ BehindKept (t .cells) (now (ints .entry)) (now (ints .exit)) ⌝ }
 {
@@ -135,7 +144,8 @@ fn repair_from(
     Turn::Repair(event, next)
 }
 
-// The next empty cell is repaired, if there is one and it can be. What stands in the work from its words on and in the counts is for the next steps; where it is refused it is left for the end to zero.
+// The next empty cell is repaired, if there is one and it can be. What stands in the work from its words on and in the
+// counts is for the next steps; where it is refused it is left for the end to zero.
 pub fn repair_next(
     work: &mut [f64],
     ints: &mut [u32],
@@ -147,7 +157,9 @@ pub fn repair_next(
     used: usize,
 ) -> Turn
     requires { ⌜ ReadyRepairs p m (termsOf t) (now samples) used from (now work) (now ints) ⌝ }
-    ensures turned { λ o. ⌜ ((far : ℕ → ℕ → Float) (start : Cells) (r : Repaired) → length (r .events) ≡ used → Running p m (termsOf t) (now (samples .entry)) far start from r (now (work .entry)) (now (ints .entry)) → Turned p m (termsOf t) (now (samples .entry)) far start r (now (work .exit)) (now (ints .exit)) o) ⌝ }
+    ensures turned { λ o. ⌜ ((far : ℕ → ℕ → Float) (start : Cells) (r : Repaired) → length (r .events) ≡ used
+        → Running p m (termsOf t) (now (samples .entry)) far start from r (now (work .entry)) (now (ints .entry))
+        → Turned p m (termsOf t) (now (samples .entry)) far start r (now (work .exit)) (now (ints .exit)) o) ⌝ }
     ensures kept { λ o. ⌜ Kept p (t .cells) (t .dim) (now (work .entry)) (now (work .exit)) ⌝ }
     ensures ints { λ o. ⌜ BehindKept (t .cells) (now (ints .entry)) (now (ints .exit)) ⌝ }
 {

@@ -12,7 +12,8 @@ ghost use Rattle.rotation.specs.Apply.{appliedAt};
 // The values are copied into the work, from `to` on.
 pub fn copy_in(values: &[f64], work: &mut [f64], to: usize)
     requires { ⌜ to + length (now values) ≤ length (now work) ⌝ }
-    ensures { λ r. ⌜ now (work .exit) ≡ patched (now (work .entry)) to (length (now (values .entry))) (λ i. getD (now (values .entry)) i nan) ⌝ }
+    ensures { λ r. ⌜ now (work .exit)
+        ≡ patched (now (work .entry)) to (length (now (values .entry))) (λ i. getD (now (values .entry)) i nan) ⌝ }
 {
     let mut i = 0usize;
     let mut place = to;
@@ -25,8 +26,10 @@ pub fn copy_in(values: &[f64], work: &mut [f64], to: usize)
 
 // `count` values are copied from one part of the work to another.
 pub fn copy_part(work: &mut [f64], from: usize, to: usize, count: usize)
-    requires { ⌜ (from + count ≤ length (now work)) × (to + count ≤ length (now work)) × ((to + count ≤ from) ⊎ (from + count ≤ to)) ⌝ }
-    ensures { λ r. ⌜ now (work .exit) ≡ patched (now (work .entry)) to count (λ i. getD (now (work .entry)) (from + i) nan) ⌝ }
+    requires { ⌜ (from + count ≤ length (now work)) × (to + count ≤ length (now work))
+        × ((to + count ≤ from) ⊎ (from + count ≤ to)) ⌝ }
+    ensures { λ r. ⌜ now (work .exit)
+        ≡ patched (now (work .entry)) to count (λ i. getD (now (work .entry)) (from + i) nan) ⌝ }
 {
     let mut i = 0usize;
     let mut source = from;
@@ -42,7 +45,9 @@ pub fn copy_part(work: &mut [f64], from: usize, to: usize, count: usize)
 // The codewords become the values of the work from `from` on, rounded to binary32.
 pub fn narrow_out(work: &[f64], from: usize, codewords: &mut [f32])
     requires { ⌜ from + length (now codewords) ≤ length (now work) ⌝ }
-    ensures { λ r. ⌜ now (codewords .exit) ≡ tabulate (length (now (codewords .entry))) (λ i. narrowTo binary32 (getD (now (work .entry)) (from + i) nan)) ⌝ }
+    ensures { λ r. ⌜ now (codewords .exit)
+        ≡ tabulate (length (now (codewords .entry)))
+        (λ i. narrowTo binary32 (getD (now (work .entry)) (from + i) nan)) ⌝ }
 {
     let mut i = 0usize;
     let mut source = from;
@@ -56,7 +61,9 @@ pub fn narrow_out(work: &[f64], from: usize, codewords: &mut [f32])
 // The first values of the work become the n codewords, each rotated by the matrix.
 fn rotate_words(matrix: &[f64], initial: &[f64], work: &mut [f64], n: usize, k: usize)
     requires { ⌜ (length (now matrix) ≡ k * k) × (length (now initial) ≡ n * k) × (n * k ≤ length (now work)) ⌝ }
-    ensures { λ r. ⌜ now (work .exit) ≡ patched (now (work .entry)) 0 (n * k) (λ i. appliedAt k (now (matrix .entry)) (take k (drop (i / k * k) (now (initial .entry)))) (i % k)) ⌝ }
+    ensures { λ r. ⌜ now (work .exit)
+        ≡ patched (now (work .entry)) 0 (n * k)
+        (λ i. appliedAt k (now (matrix .entry)) (take k (drop (i / k * k) (now (initial .entry)))) (i % k)) ⌝ }
 {
     let mut c = 0usize;
     let mut at = 0usize;
@@ -68,7 +75,8 @@ fn rotate_words(matrix: &[f64], initial: &[f64], work: &mut [f64], n: usize, k: 
     }
 }
 
-// Where a later restart starts: the initial codewords, rotated by the restart's own matrix, the first lent being that of restart 1.
+// Where a later restart starts: the initial codewords, rotated by the restart's own matrix, the first lent being that
+// of restart 1.
 pub fn start_restart(
     initial: &[f64],
     matrices: &[f64],
@@ -77,8 +85,12 @@ pub fn start_restart(
     k: usize,
     restart: usize,
 )
-    requires { ⌜ (0 < restart) × (restart * (k * k) ≤ length (now matrices)) × (length (now initial) ≡ n * k) × (n * k ≤ length (now work)) ⌝ }
-    ensures { λ r. ⌜ now (work .exit) ≡ patched (now (work .entry)) 0 (n * k) (λ i. appliedAt k (take (k * k) (drop ((restart - 1) * (k * k)) (now (matrices .entry)))) (take k (drop (i / k * k) (now (initial .entry)))) (i % k)) ⌝ }
+    requires { ⌜ (0 < restart) × (restart * (k * k) ≤ length (now matrices)) × (length (now initial) ≡ n * k)
+        × (n * k ≤ length (now work)) ⌝ }
+    ensures { λ r. ⌜ now (work .exit)
+        ≡ patched (now (work .entry)) 0 (n * k)
+        (λ i. appliedAt k (take (k * k) (drop ((restart - 1) * (k * k)) (now (matrices .entry))))
+        (take k (drop (i / k * k) (now (initial .entry)))) (i % k)) ⌝ }
 {
     let size = k * k;
     let from = (restart - 1) * size;

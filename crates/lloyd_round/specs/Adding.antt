@@ -35,7 +35,8 @@ module _ (n k : ℕ) (sample : List Float) (work : List Float) where
   abbrev pub joinInts : ℕ → List ℕ → List ℕ
   joinInts s ints =
       let counted = set ints (joins .index) (getD ints (joins .index) 0 + 1) in
-      cond (lt (getD work (placesOf n k .farthest + joins .index) nan) (joins .distance)) (set counted (n + joins .index) s) counted
+      cond (lt (getD work (placesOf n k .farthest + joins .index) nan) (joins .distance))
+      (set counted (n + joins .index) s) counted
 
 -- lengths and limits for that
 pub record Addable (n k s : ℕ) (work : List Float) (ints : List ℕ) : Type 0 where
@@ -54,5 +55,7 @@ module _ (k n S : ℕ) (samples codebook : List Float) where
   distanceOf = oldDistance k S (rowOf k samples) (cellOf k n S samples codebook) (rowOf k codebook)
 
 pub record Added (k n S : ℕ) (samples codebook : List Float) (s : ℕ) (work : List Float) (ints : List ℕ) : Type 0 where
-  pub gathered : Gathered (placesOf n k) n k (cellOf k n S samples codebook) (rowOf k samples) (distanceOf k n S samples codebook) s work ints
-  pub numbers : (c : ℕ) → c < n → getD ints (n + c) 0 ≡ farthest (cellOf k n S samples codebook) (distanceOf k n S samples codebook) c s .sample
+  pub gathered : Gathered (placesOf n k) n k (cellOf k n S samples codebook) (rowOf k samples)
+      (distanceOf k n S samples codebook) s work ints
+  pub numbers : (c : ℕ) → c < n
+      → getD ints (n + c) 0 ≡ farthest (cellOf k n S samples codebook) (distanceOf k n S samples codebook) c s .sample

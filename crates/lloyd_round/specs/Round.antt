@@ -1,4 +1,5 @@
--- A round of refinement: every sample goes to its nearest codeword, and the cells are what an update makes of that. Definitions only.
+-- A round of refinement: every sample goes to its nearest codeword, and the cells are what an update makes of that.
+-- Definitions only.
 use mathlib.Core.Path.{_≡_}
 use Prim.Native.Nat.{ℕ, _+_, _*_, _≤_, _<_}
 use mathlib.Core.Bool.{false}
@@ -32,7 +33,8 @@ module _ (k n S : ℕ) (samples codebook : List Float) where
   farOf = farthestSample k S (rowOf k samples) cellOf (rowOf k codebook)
 
 -- ---- the work of a refinement
--- Floats: the codebook of the round, the best codebook so far, the words of the update, distortions, farthest distances. What is left stays unused.
+-- Floats: the codebook of the round, the best codebook so far, the words of the update, distortions, farthest
+-- distances. What is left stays unused.
 abbrev pub placesOf : ℕ → ℕ → Places
 placesOf n k = placesAt (2 * (n * k)) (3 * (n * k)) n
 
@@ -59,4 +61,5 @@ pub record Roomy (n k S : ℕ) (samples work : List Float) (ints : List ℕ) : T
 -- before the first repair of a round over that codebook
 abbrev pub AtFirst : ℕ → ℕ → ℕ → List Float → List Float → Terms → List Float → List ℕ → Type 0
 AtFirst k n S samples codebook t work ints =
-    Running (placesOf n k) (numbersOf n) t samples (farOf k n S samples codebook) (meansOf k n S samples codebook) 0 (record { cells = meansOf k n S samples codebook; events = [] }) work ints
+    Running (placesOf n k) (numbersOf n) t samples (farOf k n S samples codebook) (meansOf k n S samples codebook) 0
+    (record { cells = meansOf k n S samples codebook; events = [] }) work ints

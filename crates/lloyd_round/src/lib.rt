@@ -1,4 +1,5 @@
-// A round of refinement in lent work: every sample goes to its nearest codeword and is added up there, and the cells get their means.
+// A round of refinement in lent work: every sample goes to its nearest codeword and is added up there, and the cells
+// get their means.
 // The public functions are public only for the crates above, which lend work of the right lengths.
 ghost use mathlib.Core.Path.{_≡_};
 ghost use mathlib.Core.Bool.{true};
@@ -42,7 +43,9 @@ fn fill(work: &mut [f64], at: usize, count: usize, x: f64)
 // Nothing is added up yet: zeros, and farthest distances below every distance.
 fn clear(work: &mut [f64], ints: &mut [u32], n: usize, k: usize)
     requires { ⌜ (0 < k) × (length (now work) ≡ 4 * (n * k) + 2 * n) × (n + n ≤ length (now ints)) ⌝ }
-    ensures work { λ r. ⌜ now (work .exit) ≡ patched (patched (now (work .entry)) (2 * (n * k)) (n * k + n) (λ i. plusZero)) (3 * (n * k) + n) n (λ i. fin true 1 (pos 0)) ⌝ }
+    ensures work { λ r. ⌜ now (work .exit)
+        ≡ patched (patched (now (work .entry)) (2 * (n * k)) (n * k + n) (λ i. plusZero)) (3 * (n * k) + n) n
+        (λ i. fin true 1 (pos 0)) ⌝ }
     ensures ints { λ r. ⌜ now (ints .exit) ≡ replicate (n + n) 0 ++ drop (n + n) (now (ints .entry)) ⌝ }
 {
     let words = n * k;
@@ -55,7 +58,8 @@ fn clear(work: &mut [f64], ints: &mut [u32], n: usize, k: usize)
 // The number of a sample's nearest codeword, and its distance to that, also where no distance is below infinity.
 fn nearest_cell(work: &[f64], n: usize, sample: &[f64]) -> Found
     requires { ⌜ (0 < n) × (n * length (now sample) ≤ length (now work)) ⌝ }
-    ensures { λ r. ⌜ r ≡ nearestIn n (length (now (sample .entry))) (front n (length (now (sample .entry))) (now (work .entry))) (vectorOf (now (sample .entry))) ⌝ }
+    ensures { λ r. ⌜ r ≡ nearestIn n (length (now (sample .entry)))
+        (front n (length (now (sample .entry))) (now (work .entry))) (vectorOf (now (sample .entry))) ⌝ }
 {
     let k = sample.len();
     let words = n * k;
@@ -71,8 +75,10 @@ fn nearest_cell(work: &[f64], n: usize, sample: &[f64]) -> Found
 // Sample number s is added to the cell of its nearest codeword, and noted where it is the farthest there so far.
 fn add_sample(work: &mut [f64], ints: &mut [u32], n: usize, sample: &[f64], s: usize)
     requires { ⌜ Addable n (length (now sample)) s (now work) (now ints) ⌝ }
-    ensures work { λ r. ⌜ now (work .exit) ≡ joinWork n (length (now (sample .entry))) (now (sample .entry)) (now (work .entry)) ⌝ }
-    ensures ints { λ r. ⌜ now (ints .exit) ≡ joinInts n (length (now (sample .entry))) (now (sample .entry)) (now (work .entry)) s (now (ints .entry)) ⌝ }
+    ensures work { λ r. ⌜ now (work .exit)
+        ≡ joinWork n (length (now (sample .entry))) (now (sample .entry)) (now (work .entry)) ⌝ }
+    ensures ints { λ r. ⌜ now (ints .exit)
+        ≡ joinInts n (length (now (sample .entry))) (now (sample .entry)) (now (work .entry)) s (now (ints .entry)) ⌝ }
 {
     let p = places(n, sample.len());
     let near = nearest_cell(&*work, n, sample);
@@ -95,7 +101,8 @@ fn add_samples(
 )
     requires roomy { ⌜ Roomy n k count (now samples) (now work) (now ints) ⌝ }
     requires none { ⌜ Added k n count (now samples) (front n k (now work)) 0 (now work) (now ints) ⌝ }
-    ensures added { λ r. ⌜ Added k n count (now (samples .entry)) (front n k (now (work .entry))) count (now (work .exit)) (now (ints .exit)) ⌝ }
+    ensures added { λ r. ⌜ Added k n count (now (samples .entry)) (front n k (now (work .entry))) count
+        (now (work .exit)) (now (ints .exit)) ⌝ }
     ensures kept { λ r. ⌜ Kept (placesOf n k) n k (now (work .entry)) (now (work .exit)) ⌝ }
 {
     let mut s = 0usize;
@@ -108,7 +115,8 @@ fn add_samples(
     }
 }
 
-// The samples go to their nearest codewords (the codebook at the front of the float work), are added up, and the cells get their means. Nothing below the words is touched; what else stands in the work is for the next steps.
+// The samples go to their nearest codewords (the codebook at the front of the float work), are added up, and the cells
+// get their means. Nothing below the words is touched; what else stands in the work is for the next steps.
 pub fn begin_round(
     samples: &[f64],
     work: &mut [f64],
@@ -118,8 +126,12 @@ pub fn begin_round(
     count: usize,
 )
     requires { ⌜ Roomy n k count (now samples) (now work) (now ints) ⌝ }
-    ensures first { λ r. ⌜ ((t : Terms) (codebook : List Float) → t .dim ≡ k → t .cells ≡ n → Holding n k 0 codebook (now (work .entry)) → AtFirst k n count (now (samples .entry)) codebook t (now (work .exit)) (now (ints .exit))) ⌝ }
-    ensures kept { λ r. ⌜ (length (now (work .exit)) ≡ length (now (work .entry))) × ((i : ℕ) → i < 2 * (n * k) → getD (now (work .exit)) i nan ≡ getD (now (work .entry)) i nan) × (length (now (ints .exit)) ≡ length (now (ints .entry))) ⌝ }
+    ensures first { λ r. ⌜ ((t : Terms) (codebook : List Float) → t .dim ≡ k → t .cells ≡ n
+        → Holding n k 0 codebook (now (work .entry))
+        → AtFirst k n count (now (samples .entry)) codebook t (now (work .exit)) (now (ints .exit))) ⌝ }
+    ensures kept { λ r. ⌜ (length (now (work .exit)) ≡ length (now (work .entry)))
+        × ((i : ℕ) → i < 2 * (n * k) → getD (now (work .exit)) i nan ≡ getD (now (work .entry)) i nan)
+        × (length (now (ints .exit)) ≡ length (now (ints .entry))) ⌝ }
 {
     clear(&mut *work, &mut *ints, n, k);
     add_samples(samples, &mut *work, &mut *ints, n, k, count);

@@ -1,4 +1,5 @@
--- Under a bound of 2 ^ b on every coordinate, b at most 480, every arithmetic result of a distance, a search and a mean error is finite; and how large distances can be.
+-- Under a bound of 2 ^ b on every coordinate, b at most 480, every arithmetic result of a distance, a search and a mean
+-- error is finite; and how large distances can be.
 -- Assumes nothing.
 use mathlib.Core.Path.{_≡_, refl, sym, ap, _∙_, subst}
 use Prim.Native.Nat.{ℕ, zero, suc, _+_, _*_, _^_, _≤_, _<_}

@@ -1,4 +1,5 @@
--- What is at most 2 ^ b in size passes the check of magnitude with the limit 2 ^ b; so what passes it with a smaller limit does with a larger one. Assumes nothing.
+-- What is at most 2 ^ b in size passes the check of magnitude with the limit 2 ^ b; so what passes it with a smaller
+-- limit does with a larger one. Assumes nothing.
 use mathlib.Core.Path.{_≡_, sym, ap, subst}
 use Prim.Native.Nat.{ℕ, _*_, _^_, _≤_, _<_}
 use native.Mathlib.Nat.{not-le-of-lt, one-mul}

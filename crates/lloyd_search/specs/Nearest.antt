@@ -31,4 +31,5 @@ nearest k n book x = firstLeast (λ i. distance k x (book i)) n
 
 -- the distances of S samples to their nearest codewords, added in order, divided by their number
 abbrev pub meanError : ℕ → ℕ → (ℕ → ℕ → Float) → (ℕ → ℕ → Float) → ℕ → Float
-meanError k n book samples S = div binary64 (sumTo (λ s. nearest k n book (samples s) .distance) S) (ofInt binary64 (pos S))
+meanError k n book samples S =
+    div binary64 (sumTo (λ s. nearest k n book (samples s) .distance) S) (ofInt binary64 (pos S))

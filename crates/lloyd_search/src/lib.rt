@@ -41,8 +41,10 @@ pub struct Four {
 // Public only for the crates above: the squared distances of a block and four codewords: four sums side by side, each
 // in its own order.
 pub fn four_distances(block: &[f64], a: &[f64], b: &[f64], c: &[f64], d: &[f64]) -> Four
-    requires { ⌜ (length (now a) ≡ length (now block)) × (length (now b) ≡ length (now block)) × (length (now c) ≡ length (now block)) × (length (now d) ≡ length (now block)) ⌝ }
-    ensures { λ r. ⌜ Distances (length (now (block .entry))) (vectorOf (now (block .entry))) (vectorOf (now (a .entry))) (vectorOf (now (b .entry))) (vectorOf (now (c .entry))) (vectorOf (now (d .entry))) r ⌝ }
+    requires { ⌜ (length (now a) ≡ length (now block)) × (length (now b) ≡ length (now block))
+        × (length (now c) ≡ length (now block)) × (length (now d) ≡ length (now block)) ⌝ }
+    ensures { λ r. ⌜ Distances (length (now (block .entry))) (vectorOf (now (block .entry))) (vectorOf (now (a .entry)))
+        (vectorOf (now (b .entry))) (vectorOf (now (c .entry))) (vectorOf (now (d .entry))) r ⌝ }
 {
     let mut first = 0.0;
     let mut second = 0.0;
@@ -83,7 +85,8 @@ pub fn nearer(best: Found, index: usize, distance: f64) -> Found
 // The nearest of the first 4 × fours codewords.
 fn search_fours(codewords: &[f64], fours: usize, block: &[f64]) -> Found
     requires { ⌜ (fours * 4 < 2 ^ 64) × (fours * 4 * length (now block) ≤ length (now codewords)) ⌝ }
-    ensures { λ r. ⌜ r ≡ nearest (length (now (block .entry))) (fours * 4) (rowOf (length (now (block .entry))) (now (codewords .entry))) (vectorOf (now (block .entry))) ⌝ }
+    ensures { λ r. ⌜ r ≡ nearest (length (now (block .entry))) (fours * 4)
+        (rowOf (length (now (block .entry))) (now (codewords .entry))) (vectorOf (now (block .entry))) ⌝ }
 {
     let k = block.len();
     let mut best = Found {
@@ -120,7 +123,8 @@ fn search_fours(codewords: &[f64], fours: usize, block: &[f64]) -> Found
 // one at a time.
 pub fn search(codewords: &[f64], n: usize, block: &[f64]) -> Found
     requires { ⌜ length (now codewords) ≡ n * length (now block) ⌝ }
-    ensures { λ r. ⌜ r ≡ nearest (length (now (block .entry))) n (rowOf (length (now (block .entry))) (now (codewords .entry))) (vectorOf (now (block .entry))) ⌝ }
+    ensures { λ r. ⌜ r ≡ nearest (length (now (block .entry))) n
+        (rowOf (length (now (block .entry))) (now (codewords .entry))) (vectorOf (now (block .entry))) ⌝ }
 {
     let k = block.len();
     let mut best = search_fours(codewords, n / 4, block);
@@ -137,8 +141,10 @@ pub fn search(codewords: &[f64], n: usize, block: &[f64]) -> Found
 
 // Public only for the crates above: the mean error of a codebook over at least one whole sample.
 pub fn mean_error(codewords: &[f64], n: usize, k: usize, samples: &[f64]) -> f64
-    requires { ⌜ (0 < k) × (length (now codewords) ≡ n * k) × (0 < length (now samples) / k) × (length (now samples) ≡ length (now samples) / k * k) ⌝ }
-    ensures { λ r. ⌜ r ≡ meanError k n (rowOf k (now (codewords .entry))) (rowOf k (now (samples .entry))) (length (now (samples .entry)) / k) ⌝ }
+    requires { ⌜ (0 < k) × (length (now codewords) ≡ n * k) × (0 < length (now samples) / k)
+        × (length (now samples) ≡ length (now samples) / k * k) ⌝ }
+    ensures { λ r. ⌜ r ≡ meanError k n (rowOf k (now (codewords .entry))) (rowOf k (now (samples .entry)))
+        (length (now (samples .entry)) / k) ⌝ }
 {
     let count = samples.len() / k;
     let mut sum = 0.0;

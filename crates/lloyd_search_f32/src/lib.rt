@@ -27,8 +27,11 @@ fn squared_distance_f32(a: &[f64], b: &[f32]) -> f64
 
 // `four_distances` to codewords of finite binary32 values, widened.
 fn four_distances_f32(block: &[f64], a: &[f32], b: &[f32], c: &[f32], d: &[f32]) -> Four
-    requires { ⌜ (length (now a) ≡ length (now block)) × (length (now b) ≡ length (now block)) × (length (now c) ≡ length (now block)) × (length (now d) ≡ length (now block)) × FiniteValues (now a) × FiniteValues (now b) × FiniteValues (now c) × FiniteValues (now d) ⌝ }
-    ensures { λ r. ⌜ Distances (length (now (block .entry))) (vectorOf (now (block .entry))) (vectorOf (now (a .entry))) (vectorOf (now (b .entry))) (vectorOf (now (c .entry))) (vectorOf (now (d .entry))) r ⌝ }
+    requires { ⌜ (length (now a) ≡ length (now block)) × (length (now b) ≡ length (now block))
+        × (length (now c) ≡ length (now block)) × (length (now d) ≡ length (now block)) × FiniteValues (now a)
+        × FiniteValues (now b) × FiniteValues (now c) × FiniteValues (now d) ⌝ }
+    ensures { λ r. ⌜ Distances (length (now (block .entry))) (vectorOf (now (block .entry))) (vectorOf (now (a .entry)))
+        (vectorOf (now (b .entry))) (vectorOf (now (c .entry))) (vectorOf (now (d .entry))) r ⌝ }
 {
     let mut first = 0.0;
     let mut second = 0.0;
@@ -57,8 +60,10 @@ fn four_distances_f32(block: &[f64], a: &[f32], b: &[f32], c: &[f32], d: &[f32])
 
 // `search_fours` over codewords of finite binary32 values, widened.
 fn search_fours_f32(codewords: &[f32], fours: usize, block: &[f64]) -> Found
-    requires { ⌜ (fours * 4 < 2 ^ 64) × (fours * 4 * length (now block) ≤ length (now codewords)) × FiniteValues (now codewords) ⌝ }
-    ensures { λ r. ⌜ r ≡ nearest (length (now (block .entry))) (fours * 4) (rowOf (length (now (block .entry))) (now (codewords .entry))) (vectorOf (now (block .entry))) ⌝ }
+    requires { ⌜ (fours * 4 < 2 ^ 64) × (fours * 4 * length (now block) ≤ length (now codewords))
+        × FiniteValues (now codewords) ⌝ }
+    ensures { λ r. ⌜ r ≡ nearest (length (now (block .entry))) (fours * 4)
+        (rowOf (length (now (block .entry))) (now (codewords .entry))) (vectorOf (now (block .entry))) ⌝ }
 {
     let k = block.len();
     let mut best = Found {
@@ -94,7 +99,8 @@ fn search_fours_f32(codewords: &[f32], fours: usize, block: &[f64]) -> Found
 // Public only for the crates above: `search` over codewords of finite binary32 values, widened.
 pub fn search_f32(codewords: &[f32], n: usize, block: &[f64]) -> Found
     requires { ⌜ (length (now codewords) ≡ n * length (now block)) × FiniteValues (now codewords) ⌝ }
-    ensures { λ r. ⌜ r ≡ nearest (length (now (block .entry))) n (rowOf (length (now (block .entry))) (now (codewords .entry))) (vectorOf (now (block .entry))) ⌝ }
+    ensures { λ r. ⌜ r ≡ nearest (length (now (block .entry))) n
+        (rowOf (length (now (block .entry))) (now (codewords .entry))) (vectorOf (now (block .entry))) ⌝ }
 {
     let k = block.len();
     let mut best = search_fours_f32(codewords, n / 4, block);
@@ -111,8 +117,12 @@ pub fn search_f32(codewords: &[f32], n: usize, block: &[f64]) -> Found
 
 // The squared distances of four blocks to one codeword of finite binary32 values, each value widened once for the four.
 fn distances_of_four_f32(codeword: &[f32], a: &[f64], b: &[f64], c: &[f64], d: &[f64]) -> Four
-    requires { ⌜ (length (now a) ≡ length (now codeword)) × (length (now b) ≡ length (now codeword)) × (length (now c) ≡ length (now codeword)) × (length (now d) ≡ length (now codeword)) × FiniteValues (now codeword) ⌝ }
-    ensures { λ r. ⌜ DistancesTo (length (now (codeword .entry))) (vectorOf (now (codeword .entry))) (vectorOf (now (a .entry))) (vectorOf (now (b .entry))) (vectorOf (now (c .entry))) (vectorOf (now (d .entry))) r ⌝ }
+    requires { ⌜ (length (now a) ≡ length (now codeword)) × (length (now b) ≡ length (now codeword))
+        × (length (now c) ≡ length (now codeword)) × (length (now d) ≡ length (now codeword))
+        × FiniteValues (now codeword) ⌝ }
+    ensures { λ r. ⌜ DistancesTo (length (now (codeword .entry))) (vectorOf (now (codeword .entry)))
+        (vectorOf (now (a .entry))) (vectorOf (now (b .entry))) (vectorOf (now (c .entry)))
+        (vectorOf (now (d .entry))) r ⌝ }
 {
     let mut first = 0.0;
     let mut second = 0.0;

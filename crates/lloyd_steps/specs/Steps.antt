@@ -20,7 +20,16 @@ roundsLeft p s = (p .«lloyd_restarts» - s .restart) * p .«lloyd_iterations» 
 
 -- restart 0 and its round 0, where the initial codebook's error is e
 abbrev pub firstState : Float → RefineState
-firstState e = record { restart = 0; iteration = 0; next = 0; before = 0; made = 0; «init_mse» = e; «best_mse» = e; «best_restart» = 0 }
+firstState e = record {
+  restart = 0;
+  iteration = 0;
+  next = 0;
+  before = 0;
+  made = 0;
+  «init_mse» = e;
+  «best_mse» = e;
+  «best_restart» = 0;
+}
 
 -- Between two rounds: earlier restarts came to b, the rounds of this one to t.
 pub record AtRound (j : Job) (b : Best) (t : Trained) (s : RefineState) (work : List Float) (ints : List ℕ) : Type 0 where
@@ -41,7 +50,8 @@ pub record AtRound (j : Job) (b : Best) (t : Trained) (s : RefineState) (work : 
   pub winner : s .«best_restart» ≡ restartOf (b .winner)
 
 -- ---- some refinement stands there
-pub record ReadyRound (p : FibQuantProfile) (samples : List Float) (slots : ℕ) (work : List Float) (ints : List ℕ) (s : RefineState) : Type 0 where
+pub record ReadyRound (p : FibQuantProfile) (samples : List Float) (slots : ℕ) (work : List Float) (ints : List ℕ)
+    (s : RefineState) : Type 0 where
   pub job : Job
   pub b : Best
   pub t : Trained
@@ -49,13 +59,15 @@ pub record ReadyRound (p : FibQuantProfile) (samples : List Float) (slots : ℕ)
   pub standing : AtRound job b t s work ints
   pub below : s .iteration < p .«lloyd_iterations»
 
-pub record ReadyOver (p : FibQuantProfile) (initial samples matrices : List Float) (slots : ℕ) (work : List Float) (ints : List ℕ) (s : RefineState) : Type 0 where
+pub record ReadyOver (p : FibQuantProfile) (initial samples matrices : List Float) (slots : ℕ) (work : List Float)
+    (ints : List ℕ) (s : RefineState) : Type 0 where
   pub job : Job
   pub events : List LloydRepairEvent
   pub matches : Matches job p initial samples matrices slots
   pub over : Over job events work ints s
 
-pub record ReadyEnd (p : FibQuantProfile) (initial samples matrices : List Float) (slots : ℕ) (work : List Float) (ints : List ℕ) (s : RefineState) : Type 0 where
+pub record ReadyEnd (p : FibQuantProfile) (initial samples matrices : List Float) (slots : ℕ) (work : List Float)
+    (ints : List ℕ) (s : RefineState) : Type 0 where
   pub job : Job
   pub b : Best
   pub t : Trained
@@ -63,7 +75,8 @@ pub record ReadyEnd (p : FibQuantProfile) (initial samples matrices : List Float
   pub standing : AtRound job b t s work ints
   pub last : s .iteration ≡ p .«lloyd_iterations»
 
-pub record ReadyPause (p : FibQuantProfile) (initial samples matrices : List Float) (slots : ℕ) (work : List Float) (ints : List ℕ) (q : Pause) : Type 0 where
+pub record ReadyPause (p : FibQuantProfile) (initial samples matrices : List Float) (slots : ℕ) (work : List Float)
+    (ints : List ℕ) (q : Pause) : Type 0 where
   pub job : Job
   pub events : List LloydRepairEvent
   pub matches : Matches job p initial samples matrices slots

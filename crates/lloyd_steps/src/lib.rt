@@ -1,4 +1,5 @@
-// The refinement step by step: from its checks to the first repair, and from one repair to the next, over the rounds and restarts between them.
+// The refinement step by step: from its checks to the first repair, and from one repair to the next, over the rounds
+// and restarts between them.
 // The public functions are public only for the crate above, which writes the event slots.
 ghost use mathlib.Core.Path.{_≡_};
 ghost use mathlib.Core.Bool.{true, false};
@@ -32,7 +33,10 @@ fn start_round(
     s: RefineState,
 ) -> Pause
     requires { ⌜ ReadyRound profile (now samples) slots (now work) (now ints) s ⌝ }
-    ensures stands { λ p. ⌜ ((j : Job) (b : Best) (t : Trained) → Matches j profile (j .initial) (now (samples .entry)) (j .matrices) slots → AtRound j b t s (now (work .entry)) (now (ints .entry)) → Pausing j (t .events) (now (work .exit)) (now (ints .exit)) p) ⌝ }
+    ensures stands { λ p. ⌜ ((j : Job) (b : Best) (t : Trained)
+        → Matches j profile (j .initial) (now (samples .entry)) (j .matrices) slots
+        → AtRound j b t s (now (work .entry)) (now (ints .entry))
+        → Pausing j (t .events) (now (work .exit)) (now (ints .exit)) p) ⌝ }
     ensures round { λ p. ⌜ (p .step .state .restart ≡ s .restart) × (p .step .state .iteration ≡ s .iteration) ⌝ }
 {
     let n = profile.codebook_size as usize;
@@ -63,8 +67,12 @@ fn next_restart(
     s: RefineState,
 ) -> Pause
     requires { ⌜ ReadyEnd profile (now initial) (now samples) (now matrices) slots (now work) (now ints) s ⌝ }
-    ensures stands { λ p. ⌜ ((j : Job) (b : Best) (t : Trained) → Matches j profile (now (initial .entry)) (now (samples .entry)) (now (matrices .entry)) slots → AtRound j b t s (now (work .entry)) (now (ints .entry)) → Pausing j (t .events) (now (work .exit)) (now (ints .exit)) p) ⌝ }
-    ensures next { λ p. ⌜ (p .over ≡ true → (p .step .state .restart ≡ s .restart + 1) × (p .step .state .iteration ≡ 0)) ⌝ }
+    ensures stands { λ p. ⌜ ((j : Job) (b : Best) (t : Trained)
+        → Matches j profile (now (initial .entry)) (now (samples .entry)) (now (matrices .entry)) slots
+        → AtRound j b t s (now (work .entry)) (now (ints .entry))
+        → Pausing j (t .events) (now (work .exit)) (now (ints .exit)) p) ⌝ }
+    ensures next { λ p. ⌜ (p .over ≡ true → (p .step .state .restart ≡ s .restart + 1)
+        × (p .step .state .iteration ≡ 0)) ⌝ }
 {
     let n = profile.codebook_size as usize;
     let k = profile.block_dim as usize;
@@ -96,7 +104,10 @@ fn next_round(
     s: RefineState,
 ) -> Pause
     requires { ⌜ ReadyOver profile (now initial) (now samples) (now matrices) slots (now work) (now ints) s ⌝ }
-    ensures stands { λ p. ⌜ ((j : Job) (events : List LloydRepairEvent) → Matches j profile (now (initial .entry)) (now (samples .entry)) (now (matrices .entry)) slots → Over j events (now (work .entry)) (now (ints .entry)) s → Pausing j events (now (work .exit)) (now (ints .exit)) p) ⌝ }
+    ensures stands { λ p. ⌜ ((j : Job) (events : List LloydRepairEvent)
+        → Matches j profile (now (initial .entry)) (now (samples .entry)) (now (matrices .entry)) slots
+        → Over j events (now (work .entry)) (now (ints .entry)) s
+        → Pausing j events (now (work .exit)) (now (ints .exit)) p) ⌝ }
     ensures falls { λ p. ⌜ (p .over ≡ true → roundsLeft profile (p .step .state) < roundsLeft profile s) ⌝ }
 {
     let values = profile.codebook_size as usize * profile.block_dim as usize;
@@ -125,7 +136,10 @@ fn advance(
     p: Pause,
 ) -> RefineStep
     requires { ⌜ ReadyPause profile (now initial) (now samples) (now matrices) slots (now work) (now ints) p ⌝ }
-    ensures { λ s. ⌜ ((j : Job) (events : List LloydRepairEvent) → Matches j profile (now (initial .entry)) (now (samples .entry)) (now (matrices .entry)) slots → Pausing j events (now (work .entry)) (now (ints .entry)) p → RefineProgress j events (now (work .exit)) (now (ints .exit)) s) ⌝ }
+    ensures { λ s. ⌜ ((j : Job) (events : List LloydRepairEvent)
+        → Matches j profile (now (initial .entry)) (now (samples .entry)) (now (matrices .entry)) slots
+        → Pausing j events (now (work .entry)) (now (ints .entry)) p
+        → RefineProgress j events (now (work .exit)) (now (ints .exit)) s) ⌝ }
 {
     let mut pause = p;
     while pause.over {
@@ -155,7 +169,9 @@ fn start_refine(
     profile: FibQuantProfile,
 ) -> Pause
     requires { ⌜ ReadyJob profile (now initial) (now samples) slots (length (now work)) (length (now ints)) ⌝ }
-    ensures { λ p. ⌜ ((j : Job) → Matches j profile (now (initial .entry)) (now (samples .entry)) (j .matrices) slots → refineChecks j ≡ completed tt → length (now (work .entry)) ≡ j .floatWork → length (now (ints .entry)) ≡ j .integerWork → Pausing j [] (now (work .exit)) (now (ints .exit)) p) ⌝ }
+    ensures { λ p. ⌜ ((j : Job) → Matches j profile (now (initial .entry)) (now (samples .entry)) (j .matrices) slots
+        → refineChecks j ≡ completed tt → length (now (work .entry)) ≡ j .floatWork
+        → length (now (ints .entry)) ≡ j .integerWork → Pausing j [] (now (work .exit)) (now (ints .exit)) p) ⌝ }
 {
     let n = profile.codebook_size as usize;
     let k = profile.block_dim as usize;
@@ -175,7 +191,8 @@ fn start_refine(
     start_round(samples, work, ints, slots, profile, s)
 }
 
-// The checks, the initial codebook, and the first repair. Once it has begun, what stands in the work beside its codebooks is for the next steps; where it is refused it is left for the end to zero.
+// The checks, the initial codebook, and the first repair. Once it has begun, what stands in the work beside its
+// codebooks is for the next steps; where it is refused it is left for the end to zero.
 pub fn begin_refine(
     initial: &[f64],
     samples: &[f64],
@@ -189,8 +206,12 @@ pub fn begin_refine(
     codewords: usize,
     slots: usize,
 ) -> RefineStep
-    ensures progress { λ s. ⌜ RefineProgress (jobOf profile (now (schema .entry)) (now («rotation_algorithm» .entry)) log2 (now (initial .entry)) (now (samples .entry)) (now (matrices .entry)) codewords (length (now (work .entry))) (length (now (ints .entry))) slots) [] (now (work .exit)) (now (ints .exit)) s ⌝ }
-    ensures early { λ s. ⌜ (s .begun ≡ false → (now (work .exit) ≡ now (work .entry)) × (now (ints .exit) ≡ now (ints .entry))) ⌝ }
+    ensures progress { λ s. ⌜ RefineProgress
+        (jobOf profile (now (schema .entry)) (now («rotation_algorithm» .entry)) log2 (now (initial .entry))
+        (now (samples .entry)) (now (matrices .entry)) codewords (length (now (work .entry)))
+        (length (now (ints .entry))) slots) [] (now (work .exit)) (now (ints .exit)) s ⌝ }
+    ensures early { λ s. ⌜ (s .begun ≡ false → (now (work .exit) ≡ now (work .entry))
+        × (now (ints .exit) ≡ now (ints .entry))) ⌝ }
 {
     let checked = lloyd_refine::check_refine(
         initial,
@@ -214,7 +235,8 @@ pub fn begin_refine(
 
 // Refused by a check.
 fn not_begun(r: Refusal) -> RefineStep
-    ensures { λ s. ⌜ (s .going ≡ false) × (s .begun ≡ false) × (s .answer ≡ Refinement.Refused r) × (s .event ≡ zeroEvent) × (s .state ≡ firstState plusZero) ⌝ }
+    ensures { λ s. ⌜ (s .going ≡ false) × (s .begun ≡ false) × (s .answer ≡ Refinement.Refused r)
+        × (s .event ≡ zeroEvent) × (s .state ≡ firstState plusZero) ⌝ }
 {
     let s = RefineState {
         restart: 0,
@@ -229,7 +251,8 @@ fn not_begun(r: Refusal) -> RefineStep
     lloyd_refine::stop(false, s, Refinement::Refused(r))
 }
 
-// The refinement goes on after the repair that s made, whose event is written by now. What stands in the work beside its codebooks is for the next steps; where it is refused it is left for the end to zero.
+// The refinement goes on after the repair that s made, whose event is written by now. What stands in the work beside
+// its codebooks is for the next steps; where it is refused it is left for the end to zero.
 pub fn next_refine(
     initial: &[f64],
     samples: &[f64],
@@ -241,7 +264,10 @@ pub fn next_refine(
     s: RefineStep,
 ) -> RefineStep
     requires { ⌜ ReadyRefine profile (now initial) (now samples) (now matrices) slots (now work) (now ints) s ⌝ }
-    ensures { λ s'. ⌜ ((j : Job) (events : List LloydRepairEvent) → Matches j profile (now (initial .entry)) (now (samples .entry)) (now (matrices .entry)) slots → Going j events (now (work .entry)) (now (ints .entry)) s → RefineProgress j (events ++ (s .event ∷ [])) (now (work .exit)) (now (ints .exit)) s') ⌝ }
+    ensures { λ s'. ⌜ ((j : Job) (events : List LloydRepairEvent)
+        → Matches j profile (now (initial .entry)) (now (samples .entry)) (now (matrices .entry)) slots
+        → Going j events (now (work .entry)) (now (ints .entry)) s
+        → RefineProgress j (events ++ (s .event ∷ [])) (now (work .exit)) (now (ints .exit)) s') ⌝ }
 {
     let state = s.state;
     let p = lloyd_refine::repair_on(samples, &mut *work, &mut *ints, slots, profile, state);

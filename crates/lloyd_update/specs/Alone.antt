@@ -65,11 +65,19 @@ updateChecks c =
     (valueChecks n (c .codebook) (c .samples) (c .assignments)))))))
 
 abbrev pub termsOf : Call → Terms
-termsOf c = record { dim = c .dim; cells = c .size; restart = c .restart; iteration = c .iteration; free = c .slots; shown = c .slots }
+termsOf c = record {
+  dim = c .dim;
+  cells = c .size;
+  restart = c .restart;
+  iteration = c .iteration;
+  free = c .slots;
+  shown = c .slots;
+}
 
 -- the update itself, once the checks have passed
 abbrev pub updateOf : Call → Outcome Repaired
-updateOf c = updated (termsOf c) (c .policy) (length (c .samples) / c .dim) (rowOf (c .dim) (c .samples)) (λ s. getD (c .assignments) s 0) (rowOf (c .dim) (c .codebook))
+updateOf c = updated (termsOf c) (c .policy) (length (c .samples) / c .dim) (rowOf (c .dim) (c .samples))
+    (λ s. getD (c .assignments) s 0) (rowOf (c .dim) (c .codebook))
 
 -- what the call comes to
 abbrev pub updateAlone : Call → Outcome Repaired
@@ -78,12 +86,15 @@ updateAlone c = andThen (updateChecks c) (λ u. updateOf c)
 -- ---- the buffers afterwards
 
 abbrev pub codebookAfter : Call → List Float
-codebookAfter c = leaves (updateChecks c) (updateOf c) (c .codebook) (λ r. wordsOf (c .size) (c .dim) (r .cells .word)) (c .codebook)
+codebookAfter c = leaves (updateChecks c) (updateOf c) (c .codebook) (λ r. wordsOf (c .size) (c .dim) (r .cells .word))
+    (c .codebook)
 
 -- work that was lent is zeroed once the update has begun
 abbrev pub workAfter : {A : Type 0} → A → Call → List A → List A
-workAfter nought c work = leaves (updateChecks c) (updateOf c) work (λ r. replicate (length work) nought) (replicate (length work) nought)
+workAfter nought c work =
+    leaves (updateChecks c) (updateOf c) work (λ r. replicate (length work) nought) (replicate (length work) nought)
 
 -- the events stand in order from the first slot on, and the slots after them are left alone
 abbrev pub slotsAfter : Call → List LloydRepairEvent → List LloydRepairEvent
-slotsAfter c slots = leaves (updateChecks c) (updateOf c) slots (λ r. r .events ++ drop (length (r .events)) slots) (replicate (length slots) zeroEvent)
+slotsAfter c slots = leaves (updateChecks c) (updateOf c) slots (λ r. r .events ++ drop (length (r .events)) slots)
+    (replicate (length slots) zeroEvent)

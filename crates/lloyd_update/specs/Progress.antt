@@ -27,7 +27,8 @@ abbrev pub updatedOf : Updated → Outcome ℕ
 updatedOf (Repairs n) = completed n
 updatedOf (Refused r) = refusal r
 
--- Update alone lends 2 * n * k + 2 * n floats: the words, room for the numbers of the farthest samples, the distortions, the farthest distances.
+-- Update alone lends 2 * n * k + 2 * n floats: the words, room for the numbers of the farthest samples, the
+-- distortions, the farthest distances.
 abbrev pub placesOf : ℕ → ℕ → Places
 placesOf n k = placesAt 0 (2 * (n * k)) n
 
@@ -74,17 +75,22 @@ distanceOf c = oldDistance (c .dim) (samplesOf c) (sampleOf c) (cellOf c) (oldWo
 
 -- the first s samples are added up, and the numbers of the farthest ones noted
 pub record Added (c : Call) (s : ℕ) (work : List Float) (counts : List ℕ) : Type 0 where
-  pub gathered : Gathered (placesOf (c .size) (c .dim)) (c .size) (c .dim) (cellOf c) (sampleOf c) (distanceOf c) s work counts
-  pub numbers : (cell : ℕ) → cell < c .size → getD work (c .size * c .dim + cell) nan ≡ ofInt binary64 (pos (farthest (cellOf c) (distanceOf c) cell s .sample))
+  pub gathered : Gathered (placesOf (c .size) (c .dim)) (c .size) (c .dim) (cellOf c) (sampleOf c)
+      (distanceOf c) s work counts
+  pub numbers : (cell : ℕ) → cell < c .size
+      → getD work (c .size * c .dim + cell) nan
+      ≡ ofInt binary64 (pos (farthest (cellOf c) (distanceOf c) cell s .sample))
 
 -- the cells below `next` have had their turn, which came to r, and the work holds it
 pub record Under (c : Call) (next : ℕ) (r : Repaired) (work : List Float) (counts : List ℕ) : Type 0 where
   pub checked : updateChecks c ≡ completed tt
   pub repairs : updateOf c ≡ repairTo (termsOf c) (farOf c) (startCells c) (c .size)
-  pub running : Running (placesOf (c .size) (c .dim)) (numbersOf (c .size) (c .dim)) (termsOf c) (c .samples) (farOf c) (startCells c) next r work counts
+  pub running : Running (placesOf (c .size) (c .dim)) (numbersOf (c .size) (c .dim)) (termsOf c) (c .samples) (farOf c)
+      (startCells c) next r work counts
 
 -- a repair was made; its event waits to be written after `events`
-pub record Going (c : Call) (events : List LloydRepairEvent) (work : List Float) (counts : List ℕ) (s : Step) : Type 0 where
+pub record Going (c : Call) (events : List LloydRepairEvent) (work : List Float) (counts : List ℕ)
+    (s : Step) : Type 0 where
   pub r : Repaired
   pub under : Under c (s .next) r work counts
   pub last : r .events ≡ events ++ (s .event ∷ [])
@@ -92,7 +98,8 @@ pub record Going (c : Call) (events : List LloydRepairEvent) (work : List Float)
   pub begun : s .begun ≡ true
 
 -- the update has come to its end, and `events` are its events
-pub record Ended (c : Call) (events : List LloydRepairEvent) (work : List Float) (counts : List ℕ) (s : Step) : Type 0 where
+pub record Ended (c : Call) (events : List LloydRepairEvent) (work : List Float) (counts : List ℕ)
+    (s : Step) : Type 0 where
   pub answer : updatedOf (s .answer) ≡ andThen (updateAlone c) (λ r. completed (length (r .events)))
   pub done : (r : Repaired) → updateAlone c ≡ completed r → (events ≡ r .events) × Under c (c .size) r work counts
   pub begun : s .begun ≡ true → updateChecks c ≡ completed tt
@@ -100,7 +107,8 @@ pub record Ended (c : Call) (events : List LloydRepairEvent) (work : List Float)
 
 -- either
 abbrev pub UpdateProgress : Call → List LloydRepairEvent → List Float → List ℕ → Step → Type 0
-UpdateProgress c events work counts s = (s .going ≡ true → Going c events work counts s) × (s .going ≡ false → Ended c events work counts s)
+UpdateProgress c events work counts s = (s .going ≡ true → Going c events work counts s)
+    × (s .going ≡ false → Ended c events work counts s)
 
 -- the numbers that a call was made with
 pub record Matches (c : Call) (t : UpdateTerms) (xs : List Float) (most : ℕ) : Type 0 where
@@ -112,7 +120,8 @@ pub record Matches (c : Call) (t : UpdateTerms) (xs : List Float) (most : ℕ) :
   pub slots : c .slots ≡ most
 
 -- some update is going on
-pub record ReadyUpdate (t : UpdateTerms) (samples : List Float) (slots m : ℕ) (work : List Float) (counts : List ℕ) (s : Step) : Type 0 where
+pub record ReadyUpdate (t : UpdateTerms) (samples : List Float) (slots m : ℕ) (work : List Float) (counts : List ℕ)
+    (s : Step) : Type 0 where
   pub call : Call
   pub events : List LloydRepairEvent
   pub matches : Matches call t samples slots
@@ -120,7 +129,8 @@ pub record ReadyUpdate (t : UpdateTerms) (samples : List Float) (slots m : ℕ) 
   pub used : m ≡ suc (length events)
 
 -- the same, at the cell whose turn is next
-pub record ReadyAt (t : UpdateTerms) (samples : List Float) (slots m : ℕ) (work : List Float) (counts : List ℕ) (next : ℕ) : Type 0 where
+pub record ReadyAt (t : UpdateTerms) (samples : List Float) (slots m : ℕ) (work : List Float) (counts : List ℕ)
+    (next : ℕ) : Type 0 where
   pub call : Call
   pub r : Repaired
   pub matches : Matches call t samples slots
@@ -128,7 +138,8 @@ pub record ReadyAt (t : UpdateTerms) (samples : List Float) (slots m : ℕ) (wor
   pub used : m ≡ length (r .events)
 
 -- what the samples of a call that passed its checks can be added to: lengths, cells and a limit
-pub record Addable (n k : ℕ) (codebook samples : List Float) (assignments : List ℕ) (work : List Float) (counts : List ℕ) : Type 0 where
+pub record Addable (n k : ℕ) (codebook samples : List Float) (assignments : List ℕ) (work : List Float)
+    (counts : List ℕ) : Type 0 where
   pub some : 0 < k
   pub least : k ≤ 256
   pub most : n ≤ 1048576

@@ -1,5 +1,6 @@
 // The update of lloyd.rs, called alone: its checks, its means, its repairs one at a time, and its end.
-// A repair is a value here; the event slots are written in one place above. The public functions are public only for the crates above.
+// A repair is a value here; the event slots are written in one place above. The public functions are public only for
+// the crates above.
 ghost use mathlib.Core.Path.{_≡_};
 ghost use mathlib.Core.Bool.{true, false, cond, _&&_};
 ghost use mathlib.Core.List.{List, [], _∷_, _++_};
@@ -67,7 +68,9 @@ fn check_update(
     slots: usize,
     t: UpdateTerms,
 ) -> Checked
-    ensures { λ r. ⌜ checked r ≡ updateChecks (callOf t (now (codebook .entry)) (now (samples .entry)) (now (assignments .entry)) floats integers slots) ⌝ }
+    ensures { λ r. ⌜ checked r
+        ≡ updateChecks (callOf t (now (codebook .entry)) (now (samples .entry))
+        (now (assignments .entry)) floats integers slots) ⌝ }
 {
     let n = t.codebook_size;
     let k = t.block_dim;
@@ -95,7 +98,8 @@ fn check_update(
 // The values of codebook and samples, then the assignments.
 fn check_values(codebook: &[f64], samples: &[f64], assignments: &[u32], n: u64) -> Checked
     requires { ⌜ n < 4294967296 ⌝ }
-    ensures { λ r. ⌜ checked r ≡ valueChecks n (now (codebook .entry)) (now (samples .entry)) (now (assignments .entry)) ⌝ }
+    ensures { λ r. ⌜ checked r
+        ≡ valueChecks n (now (codebook .entry)) (now (samples .entry)) (now (assignments .entry)) ⌝ }
 {
     let bad = slices::first_outside(codebook, UPDATE_LIMIT);
     if let First::At(place) = bad {
@@ -136,7 +140,8 @@ fn places(n: usize, k: usize) -> Places
 // Nothing is added up yet: zeros, and farthest distances below every distance.
 fn clear(work: &mut [f64], counts: &mut [u32], n: usize, k: usize)
     requires { ⌜ (0 < k) × (length (now work) ≡ 2 * (n * k) + 2 * n) × (length (now counts) ≡ n) ⌝ }
-    ensures work { λ r. ⌜ now (work .exit) ≡ patched (replicate (length (now (work .entry))) plusZero) (2 * (n * k) + n) n (λ i. fin true 1 (pos 0)) ⌝ }
+    ensures work { λ r. ⌜ now (work .exit)
+        ≡ patched (replicate (length (now (work .entry))) plusZero) (2 * (n * k) + n) n (λ i. fin true 1 (pos 0)) ⌝ }
     ensures counts { λ r. ⌜ now (counts .exit) ≡ replicate n 0 ⌝ }
 {
     slices::zero_f64(&mut *work);
@@ -161,7 +166,10 @@ fn add_samples(
     k: usize,
 )
     requires { ⌜ Addable n k (now codebook) (now samples) (now assignments) (now work) (now counts) ⌝ }
-    ensures added { λ r. ⌜ ((c : Call) → c .size ≡ n → c .dim ≡ k → c .codebook ≡ now (codebook .entry) → c .samples ≡ now (samples .entry) → c .assignments ≡ now (assignments .entry) → Added c 0 (now (work .entry)) (now (counts .entry)) → Added c (length (now (assignments .entry))) (now (work .exit)) (now (counts .exit))) ⌝ }
+    ensures added { λ r. ⌜ ((c : Call) → c .size ≡ n → c .dim ≡ k → c .codebook ≡ now (codebook .entry)
+        → c .samples ≡ now (samples .entry) → c .assignments ≡ now (assignments .entry)
+        → Added c 0 (now (work .entry)) (now (counts .entry))
+        → Added c (length (now (assignments .entry))) (now (work .exit)) (now (counts .exit))) ⌝ }
 {
     let p = places(n, k);
     let numbers = n * k;
@@ -199,7 +207,8 @@ pub fn count_empty(counts: &[u32]) -> usize
 
 // Stopped with an answer, before updating began or once it has.
 fn stop(begun: bool, answer: Updated) -> Step
-    ensures { λ s. ⌜ (s .going ≡ false) × (s .begun ≡ begun) × (s .answer ≡ answer) × (s .event ≡ zeroEvent) × (s .next ≡ 0) ⌝ }
+    ensures { λ s. ⌜ (s .going ≡ false) × (s .begun ≡ begun) × (s .answer ≡ answer) × (s .event ≡ zeroEvent)
+        × (s .next ≡ 0) ⌝ }
 {
     Step {
         going: false,
@@ -210,7 +219,8 @@ fn stop(begun: bool, answer: Updated) -> Step
     }
 }
 
-// The next repair after the one that s made, whose event is the last of `used` events. What stands in work and counts is for the next steps; where it is refused it is left for the end to zero.
+// The next repair after the one that s made, whose event is the last of `used` events. What stands in work and counts
+// is for the next steps; where it is refused it is left for the end to zero.
 pub fn next_repair(
     samples: &[f64],
     work: &mut [f64],
@@ -221,7 +231,9 @@ pub fn next_repair(
     s: Step,
 ) -> Step
     requires { ⌜ ReadyUpdate t (now samples) slots used (now work) (now counts) s ⌝ }
-    ensures { λ s'. ⌜ ((c : Call) (events : List LloydRepairEvent) → Matches c t (now (samples .entry)) slots → used ≡ length (events ++ (s .event ∷ [])) → Going c events (now (work .entry)) (now (counts .entry)) s → UpdateProgress c (events ++ (s .event ∷ [])) (now (work .exit)) (now (counts .exit)) s') ⌝ }
+    ensures { λ s'. ⌜ ((c : Call) (events : List LloydRepairEvent) → Matches c t (now (samples .entry)) slots
+        → used ≡ length (events ++ (s .event ∷ [])) → Going c events (now (work .entry)) (now (counts .entry)) s
+        → UpdateProgress c (events ++ (s .event ∷ [])) (now (work .exit)) (now (counts .exit)) s') ⌝ }
 {
     repair_on(samples, work, counts, slots, used, t, s.next)
 }
@@ -237,7 +249,9 @@ fn repair_on(
     from: usize,
 ) -> Step
     requires { ⌜ ReadyAt t (now samples) slots used (now work) (now counts) from ⌝ }
-    ensures { λ s'. ⌜ ((c : Call) (r : Repaired) → Matches c t (now (samples .entry)) slots → used ≡ length (r .events) → Under c from r (now (work .entry)) (now (counts .entry)) → UpdateProgress c (r .events) (now (work .exit)) (now (counts .exit)) s') ⌝ }
+    ensures { λ s'. ⌜ ((c : Call) (r : Repaired) → Matches c t (now (samples .entry)) slots → used ≡ length (r .events)
+        → Under c from r (now (work .entry)) (now (counts .entry))
+        → UpdateProgress c (r .events) (now (work .exit)) (now (counts .exit)) s') ⌝ }
 {
     let n = t.codebook_size as usize;
     let k = t.block_dim as usize;
@@ -275,7 +289,8 @@ fn repair_on(
     }
 }
 
-// The checks, the means, and the first repair. Once it has begun, what stands in work and counts is for the next steps; where it is refused it is left for the end to zero.
+// The checks, the means, and the first repair. Once it has begun, what stands in work and counts is for the next steps;
+// where it is refused it is left for the end to zero.
 pub fn begin_update(
     codebook: &[f64],
     samples: &[f64],
@@ -285,8 +300,11 @@ pub fn begin_update(
     slots: usize,
     t: UpdateTerms,
 ) -> Step
-    ensures progress { λ s. ⌜ UpdateProgress (callOf t (now (codebook .entry)) (now (samples .entry)) (now (assignments .entry)) (length (now (work .entry))) (length (now (counts .entry))) slots) [] (now (work .exit)) (now (counts .exit)) s ⌝ }
-    ensures early { λ s. ⌜ (s .begun ≡ false → (now (work .exit) ≡ now (work .entry)) × (now (counts .exit) ≡ now (counts .entry))) ⌝ }
+    ensures progress { λ s. ⌜ UpdateProgress
+        (callOf t (now (codebook .entry)) (now (samples .entry)) (now (assignments .entry)) (length (now (work .entry)))
+        (length (now (counts .entry))) slots) [] (now (work .exit)) (now (counts .exit)) s ⌝ }
+    ensures early { λ s. ⌜ (s .begun ≡ false → (now (work .exit) ≡ now (work .entry))
+        × (now (counts .exit) ≡ now (counts .entry))) ⌝ }
 {
     if let Checked::Refused(r) = check_update(
         codebook,
@@ -326,9 +344,13 @@ pub fn begin_update(
 pub fn finish_update(codebook: &mut [f64], work: &mut [f64], counts: &mut [u32], s: Step) -> Updated
     requires { ⌜ (s .begun ≡ true → length (now codebook) ≤ length (now work)) ⌝ }
     ensures answer { λ r. ⌜ r ≡ s .answer ⌝ }
-    ensures codebook { λ r. ⌜ now (codebook .exit) ≡ cond (s .begun && isAccepted (s .answer)) (take (length (now (codebook .entry))) (now (work .entry))) (now (codebook .entry)) ⌝ }
-    ensures work { λ r. ⌜ now (work .exit) ≡ cond (s .begun) (replicate (length (now (work .entry))) plusZero) (now (work .entry)) ⌝ }
-    ensures counts { λ r. ⌜ now (counts .exit) ≡ cond (s .begun) (replicate (length (now (counts .entry))) 0) (now (counts .entry)) ⌝ }
+    ensures codebook { λ r. ⌜ now (codebook .exit)
+        ≡ cond (s .begun && isAccepted (s .answer)) (take (length (now (codebook .entry))) (now (work .entry)))
+        (now (codebook .entry)) ⌝ }
+    ensures work { λ r. ⌜ now (work .exit)
+        ≡ cond (s .begun) (replicate (length (now (work .entry))) plusZero) (now (work .entry)) ⌝ }
+    ensures counts { λ r. ⌜ now (counts .exit)
+        ≡ cond (s .begun) (replicate (length (now (counts .entry))) 0) (now (counts .entry)) ⌝ }
 {
     let answer = s.answer;
     if s.begun {

@@ -1,4 +1,5 @@
--- `magOf` of a fraction whose denominator is a power of two, by one cut of the numerator's digits. All over variables, so that no power is worked out. Assumes nothing.
+-- `magOf` of a fraction whose denominator is a power of two, by one cut of the numerator's digits. All over variables,
+-- so that no power is worked out. Assumes nothing.
 use mathlib.Core.Path.{_≡_, sym, ap, _∙_, subst}
 use Prim.Native.Nat.{ℕ, suc, _+_, _-_, _*_, _/_, _%_, _^_, _≤_, _<_, min, compare}
 use native.Mathlib.Nat.{sub-eq-zero-of-le, le-trans, le-of-eq, lt-of-lt-of-le, mul-assoc, mul-le-mul-right, mul-pos, le-div-iff-mul-le, div-eq-of-lt, mod-eq-of-lt}

@@ -1,4 +1,5 @@
--- `magOf` at the kit's two formats is what `toBits` makes of the rounded value, so `packed` and `narrowTo` agree. A rounded value fits, and is no NaN. Assumes nothing.
+-- `magOf` at the kit's two formats is what `toBits` makes of the rounded value, so `packed` and `narrowTo` agree. A
+-- rounded value fits, and is no NaN. Assumes nothing.
 use mathlib.Core.Path.{_≡_, refl, sym, ap, _∙_, subst}
 use mathlib.Core.Logic.{inl, inr}
 use Prim.Native.Nat.{ℕ, zero, suc, _+_, _-_, _*_, _/_, _%_, _^_, _≤_, _<_, min, compare, zero-le}

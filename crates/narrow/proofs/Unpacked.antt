@@ -1,4 +1,5 @@
--- What a pattern stands for, as a float: `unpacked` is the kit's `ofBits` at its two formats, and `packed` takes its value back to the pattern. Assumes nothing.
+-- What a pattern stands for, as a float: `unpacked` is the kit's `ofBits` at its two formats, and `packed` takes its
+-- value back to the pattern. Assumes nothing.
 use mathlib.Core.Path.{_≡_, refl, sym, ap, _∙_, subst}
 use Prim.Native.Nat.{ℕ, zero, suc, _+_, _-_, _*_, _/_, _%_, _^_, _≤_, _<_}
 use native.Mathlib.Nat.{le-antisymm, le-of-suc-le-suc, le-div-iff-mul-le, div-lt-iff-lt-mul, mul-mod-left, le-add-right, le-of-lt, le-of-eq, mod-lt, mod-eq-of-lt, mod-eq-sub-mod, add-mod-left, div-eq-of-lt, div-add-mod', mod-mod-of-dvd, dvd-mul-right, mul-pos, mul-comm, zero-lt-suc, zero-add}

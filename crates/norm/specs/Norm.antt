@@ -1,4 +1,5 @@
--- The norm of a code, by document 01: binary64 to binary32, then binary16; 10 where it is not codable or not valid. Definitions only.
+-- The norm of a code, by document 01: binary64 to binary32, then binary16; 10 where it is not codable or not valid.
+-- Definitions only.
 use Prim.Native.Nat.{ℕ, _+_, _*_}
 use mathlib.Core.Bool.{Bool, not, _&&_, cond}
 use mathlib.Core.List.{List, []}

@@ -35,7 +35,8 @@ sizesOf d k n = cond (ltb 16777216 (d * d)) (refused 5 []) (cond (ltb 67108864 (
 
 abbrev pub formatsOf : NormFormat → SourceMode → Outcome Unit
 formatsOf norm source =
-    cond (not (isFp16 norm)) (refused 6 (whole normFormatField ∷ [])) (cond (not (isCanonical source)) (refused 6 (whole sourceModeField ∷ [])) (completed tt))
+    cond (not (isFp16 norm)) (refused 6 (whole normFormatField ∷ []))
+    (cond (not (isCanonical source)) (refused 6 (whole sourceModeField ∷ [])) (completed tt))
 
 abbrev pub widthOf : ℕ → ℕ → Outcome Unit
 widthOf bits n = cond (not (eqb bits (indexWidth n))) (refused 6 (whole wireBitsField ∷ [])) (completed tt)
@@ -51,11 +52,13 @@ perCoord bits k = div binary64 bits (ofInt binary64 (pos k))
 unfoldable pub ratesOf : FibQuantProfile → Float → Outcome Unit
 ratesOf p log2 =
     also (rateOf paperRateField (p .«paper_rate_bits_per_coord») (perCoord log2 (p .«block_dim»)))
-    (rateOf wireRateField (p .«wire_bits_per_coord») (perCoord (ofInt binary64 (pos (p .«wire_index_bits»))) (p .«block_dim»)))
+    (rateOf wireRateField (p .«wire_bits_per_coord»)
+    (perCoord (ofInt binary64 (pos (p .«wire_index_bits»))) (p .«block_dim»)))
 
 abbrev pub methodsOf : ℕ → RadiusMethod → DirectionMethod → Outcome Unit
 methodsOf k radius direction =
-    cond (not (sameRadius radius (radiusFor k) && sameDirection direction (directionFor k))) (refused 6 (whole methodPairField ∷ [])) (completed tt)
+    cond (not (sameRadius radius (radiusFor k) && sameDirection direction (directionFor k)))
+    (refused 6 (whole methodPairField ∷ [])) (completed tt)
 
 -- restarts, iterations, samples
 unfoldable pub settingsOf : ℕ → ℕ → ℕ → ℕ → Outcome Unit

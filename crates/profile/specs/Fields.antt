@@ -1,4 +1,5 @@
--- The tests that the checks of a profile are made of: strings, formats, methods, the width of an index, rates. Definitions only.
+-- The tests that the checks of a profile are made of: strings, formats, methods, the width of an index, rates.
+-- Definitions only.
 use Prim.Native.Nat.{ℕ, _-_}
 use Prim.Native.Char.{code}
 use Prim.Native.String.{String, [] as []ᵗ, _∷_ as _∷ᵗ_}

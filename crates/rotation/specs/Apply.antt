@@ -1,4 +1,5 @@
--- A square matrix, stored row by row, times a vector; and its transpose times a vector, which undoes a rotation. Definitions only.
+-- A square matrix, stored row by row, times a vector; and its transpose times a vector, which undoes a rotation.
+-- Definitions only.
 -- Each product and each addition is rounded to binary64, and a sum takes its terms in order from +0.
 use Prim.Native.Nat.{ℕ, _+_, _*_}
 use mathlib.Core.Bool.{cond}

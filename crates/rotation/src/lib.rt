@@ -76,11 +76,13 @@ fn check_shape(dim: u64, matrix: usize, input: usize, output: usize) -> Checked
 }
 
 // `apply` for lengths already checked. Public only for the crates above.
-// Eight rows at a time, since their sums do not wait for each other; the rows left over, at most seven, come one at a time.
+// Eight rows at a time, since their sums do not wait for each other; the rows left over, at most seven, come one at a
+// time.
 pub fn rotate(matrix: &[f64], input: &[f64], output: &mut [f64])
     requires { ⌜ length (now matrix) ≡ length (now input) * length (now input) ⌝ }
     requires { ⌜ length (now output) ≡ length (now input) ⌝ }
-    ensures { λ r. ⌜ now (output .exit) ≡ applied (length (now (input .entry))) (now (matrix .entry)) (now (input .entry)) ⌝ }
+    ensures { λ r. ⌜ now (output .exit)
+        ≡ applied (length (now (input .entry))) (now (matrix .entry)) (now (input .entry)) ⌝ }
 {
     let passed = rotate_eights(matrix, input, output);
     rotate_rest(matrix, input, output, passed);
@@ -91,7 +93,9 @@ fn rotate_eights(matrix: &[f64], input: &[f64], output: &mut [f64]) -> usize
     requires { ⌜ length (now matrix) ≡ length (now input) * length (now input) ⌝ }
     requires { ⌜ length (now output) ≡ length (now input) ⌝ }
     ensures { λ r. ⌜ r ≤ length (now (output .entry)) ⌝ }
-    ensures { λ r. ⌜ now (output .exit) ≡ filled r (appliedAt (length (now (input .entry))) (now (matrix .entry)) (now (input .entry))) (now (output .entry)) ⌝ }
+    ensures { λ r. ⌜ now (output .exit)
+        ≡ filled r (appliedAt (length (now (input .entry))) (now (matrix .entry)) (now (input .entry)))
+        (now (output .entry)) ⌝ }
 {
     let d = input.len();
     let mut row = 0usize;
@@ -118,7 +122,8 @@ fn rotate_rest(matrix: &[f64], input: &[f64], output: &mut [f64], first: usize)
     requires { ⌜ length (now output) ≡ length (now input) ⌝ }
     requires { ⌜ first ≤ length (now output) ⌝ }
     requires { ⌜ now output ≡ filled first (appliedAt (length (now input)) (now matrix) (now input)) (now output) ⌝ }
-    ensures { λ r. ⌜ now (output .exit) ≡ applied (length (now (input .entry))) (now (matrix .entry)) (now (input .entry)) ⌝ }
+    ensures { λ r. ⌜ now (output .exit)
+        ≡ applied (length (now (input .entry))) (now (matrix .entry)) (now (input .entry)) ⌝ }
 {
     let d = input.len();
     let mut row = first;
@@ -162,7 +167,8 @@ struct EightSums {
 // The sums of the eight rows from `start` on.
 fn dot8(matrix: &[f64], input: &[f64], start: usize) -> EightSums
     requires { ⌜ start + 8 * length (now input) ≤ length (now matrix) ⌝ }
-    ensures { λ r. ⌜ r ≡ eightRows (now (matrix .entry)) (now (input .entry)) start (length (now (input .entry))) (length (now (input .entry))) ⌝ }
+    ensures { λ r. ⌜ r ≡ eightRows (now (matrix .entry)) (now (input .entry)) start (length (now (input .entry)))
+        (length (now (input .entry))) ⌝ }
 {
     let d = input.len();
     let start2 = start + d;
@@ -207,11 +213,13 @@ fn dot8(matrix: &[f64], input: &[f64], start: usize) -> EightSums
 
 // `apply_inverse` for lengths already checked.
 // Row by row into the output: the memory is read in order, and each output still gets its terms in the order of the rows.
-// Four rows at a time, since the output is then loaded and stored a quarter as often; the rows left over come one at a time.
+// Four rows at a time, since the output is then loaded and stored a quarter as often; the rows left over come one at a
+// time.
 fn rotate_back(matrix: &[f64], input: &[f64], output: &mut [f64])
     requires { ⌜ length (now matrix) ≡ length (now input) * length (now input) ⌝ }
     requires { ⌜ length (now output) ≡ length (now input) ⌝ }
-    ensures { λ r. ⌜ now (output .exit) ≡ appliedInverse (length (now (input .entry))) (now (matrix .entry)) (now (input .entry)) ⌝ }
+    ensures { λ r. ⌜ now (output .exit)
+        ≡ appliedInverse (length (now (input .entry))) (now (matrix .entry)) (now (input .entry)) ⌝ }
 {
     let passed = rotate_back_fours(matrix, input, output);
     rotate_back_rest(matrix, input, output, passed);
@@ -222,7 +230,9 @@ fn rotate_back_fours(matrix: &[f64], input: &[f64], output: &mut [f64]) -> usize
     requires { ⌜ length (now matrix) ≡ length (now input) * length (now input) ⌝ }
     requires { ⌜ length (now output) ≡ length (now input) ⌝ }
     ensures { λ r. ⌜ r ≤ length (now (input .entry)) ⌝ }
-    ensures { λ r. ⌜ now (output .exit) ≡ tabulate (length (now (input .entry))) (λ (c : ℕ). columnSum (length (now (input .entry))) (now (matrix .entry)) (now (input .entry)) c r) ⌝ }
+    ensures { λ r. ⌜ now (output .exit)
+        ≡ tabulate (length (now (input .entry)))
+        (λ (c : ℕ). columnSum (length (now (input .entry))) (now (matrix .entry)) (now (input .entry)) c r) ⌝ }
 {
     slices::zero_f64(output);
     let d = input.len();
@@ -245,8 +255,10 @@ fn rotate_back_rest(matrix: &[f64], input: &[f64], output: &mut [f64], first: us
     requires { ⌜ length (now matrix) ≡ length (now input) * length (now input) ⌝ }
     requires { ⌜ length (now output) ≡ length (now input) ⌝ }
     requires { ⌜ first ≤ length (now input) ⌝ }
-    requires { ⌜ now output ≡ tabulate (length (now input)) (λ (c : ℕ). columnSum (length (now input)) (now matrix) (now input) c first) ⌝ }
-    ensures { λ r. ⌜ now (output .exit) ≡ appliedInverse (length (now (input .entry))) (now (matrix .entry)) (now (input .entry)) ⌝ }
+    requires { ⌜ now output ≡ tabulate (length (now input))
+        (λ (c : ℕ). columnSum (length (now input)) (now matrix) (now input) c first) ⌝ }
+    ensures { λ r. ⌜ now (output .exit)
+        ≡ appliedInverse (length (now (input .entry))) (now (matrix .entry)) (now (input .entry)) ⌝ }
 {
     let d = input.len();
     let mut row = first;
@@ -261,7 +273,10 @@ fn rotate_back_rest(matrix: &[f64], input: &[f64], output: &mut [f64], first: us
 // Adds to each output its element of the row that starts at `start`, times `factor`.
 fn add_row(matrix: &[f64], start: usize, factor: f64, output: &mut [f64])
     requires { ⌜ start + length (now output) ≤ length (now matrix) ⌝ }
-    ensures { λ r. ⌜ now (output .exit) ≡ tabulate (length (now (output .entry))) (λ (c : ℕ). add binary64 (getD (now (output .entry)) c nan) (mul binary64 (getD (now (matrix .entry)) (start + c) nan) factor)) ⌝ }
+    ensures { λ r. ⌜ now (output .exit)
+        ≡ tabulate (length (now (output .entry)))
+        (λ (c : ℕ). add binary64 (getD (now (output .entry)) c nan)
+        (mul binary64 (getD (now (matrix .entry)) (start + c) nan) factor)) ⌝ }
 {
     let mut c = 0usize;
     while c < output.len() {
@@ -281,7 +296,9 @@ fn add_four_rows(
     output: &mut [f64],
 )
     requires { ⌜ start + 4 * length (now output) ≤ length (now matrix) ⌝ }
-    ensures { λ r. ⌜ now (output .exit) ≡ tabulate (length (now (output .entry))) (fourAdded (now (matrix .entry)) start first second third fourth (now (output .entry))) ⌝ }
+    ensures { λ r. ⌜ now (output .exit)
+        ≡ tabulate (length (now (output .entry)))
+        (fourAdded (now (matrix .entry)) start first second third fourth (now (output .entry))) ⌝ }
 {
     let d = output.len();
     let start2 = start + d;
@@ -299,11 +316,13 @@ fn add_four_rows(
 }
 
 // `rotate` within one buffer: its first d values are the input, the d values after them become the output.
-// For a caller that has both in one work slice, of which two parts cannot be lent at a time. Public only for the crates above.
+// For a caller that has both in one work slice, of which two parts cannot be lent at a time. Public only for the crates
+// above.
 pub fn rotate_within(matrix: &[f64], work: &mut [f64], d: usize)
     requires { ⌜ length (now matrix) ≡ d * d ⌝ }
     requires { ⌜ length (now work) ≡ d + d ⌝ }
-    ensures { λ r. ⌜ now (work .exit) ≡ take d (now (work .entry)) ++ applied d (now (matrix .entry)) (take d (now (work .entry))) ⌝ }
+    ensures { λ r. ⌜ now (work .exit) ≡ take d (now (work .entry))
+        ++ applied d (now (matrix .entry)) (take d (now (work .entry))) ⌝ }
 {
     let passed = rotate_eights_within(matrix, work, d);
     rotate_rest_within(matrix, work, d, passed);
@@ -314,7 +333,8 @@ fn rotate_eights_within(matrix: &[f64], work: &mut [f64], d: usize) -> usize
     requires { ⌜ length (now matrix) ≡ d * d ⌝ }
     requires { ⌜ length (now work) ≡ d + d ⌝ }
     ensures { λ r. ⌜ r ≤ d ⌝ }
-    ensures { λ r. ⌜ now (work .exit) ≡ take d (now (work .entry)) ++ filled r (appliedAt d (now (matrix .entry)) (take d (now (work .entry)))) (drop d (now (work .entry))) ⌝ }
+    ensures { λ r. ⌜ now (work .exit) ≡ take d (now (work .entry))
+        ++ filled r (appliedAt d (now (matrix .entry)) (take d (now (work .entry)))) (drop d (now (work .entry))) ⌝ }
 {
     let mut row = 0usize;
     let mut at = 0usize;
@@ -339,8 +359,10 @@ fn rotate_rest_within(matrix: &[f64], work: &mut [f64], d: usize, first: usize)
     requires { ⌜ length (now matrix) ≡ d * d ⌝ }
     requires { ⌜ length (now work) ≡ d + d ⌝ }
     requires { ⌜ first ≤ d ⌝ }
-    requires { ⌜ now work ≡ take d (now work) ++ filled first (appliedAt d (now matrix) (take d (now work))) (drop d (now work)) ⌝ }
-    ensures { λ r. ⌜ now (work .exit) ≡ take d (now (work .entry)) ++ applied d (now (matrix .entry)) (take d (now (work .entry))) ⌝ }
+    requires { ⌜ now work ≡ take d (now work)
+        ++ filled first (appliedAt d (now matrix) (take d (now work))) (drop d (now work)) ⌝ }
+    ensures { λ r. ⌜ now (work .exit) ≡ take d (now (work .entry))
+        ++ applied d (now (matrix .entry)) (take d (now (work .entry))) ⌝ }
 {
     let mut row = first;
     let mut at = first * d;
@@ -356,7 +378,8 @@ fn rotate_rest_within(matrix: &[f64], work: &mut [f64], d: usize, first: usize)
 pub fn rotate_back_within(matrix: &[f64], work: &mut [f64], d: usize)
     requires { ⌜ length (now matrix) ≡ d * d ⌝ }
     requires { ⌜ length (now work) ≡ d + d ⌝ }
-    ensures { λ r. ⌜ now (work .exit) ≡ take d (now (work .entry)) ++ appliedInverse d (now (matrix .entry)) (take d (now (work .entry))) ⌝ }
+    ensures { λ r. ⌜ now (work .exit) ≡ take d (now (work .entry))
+        ++ appliedInverse d (now (matrix .entry)) (take d (now (work .entry))) ⌝ }
 {
     let passed = rotate_back_fours_within(matrix, work, d);
     rotate_back_rest_within(matrix, work, d, passed);
@@ -367,7 +390,8 @@ fn rotate_back_fours_within(matrix: &[f64], work: &mut [f64], d: usize) -> usize
     requires { ⌜ length (now matrix) ≡ d * d ⌝ }
     requires { ⌜ length (now work) ≡ d + d ⌝ }
     ensures { λ r. ⌜ r ≤ d ⌝ }
-    ensures { λ r. ⌜ now (work .exit) ≡ take d (now (work .entry)) ++ tabulate d (λ (c : ℕ). columnSum d (now (matrix .entry)) (take d (now (work .entry))) c r) ⌝ }
+    ensures { λ r. ⌜ now (work .exit) ≡ take d (now (work .entry))
+        ++ tabulate d (λ (c : ℕ). columnSum d (now (matrix .entry)) (take d (now (work .entry))) c r) ⌝ }
 {
     slices::zero_f64(&mut work[d..]);
     let mut row = 0usize;
@@ -389,8 +413,10 @@ fn rotate_back_rest_within(matrix: &[f64], work: &mut [f64], d: usize, first: us
     requires { ⌜ length (now matrix) ≡ d * d ⌝ }
     requires { ⌜ length (now work) ≡ d + d ⌝ }
     requires { ⌜ first ≤ d ⌝ }
-    requires { ⌜ now work ≡ take d (now work) ++ tabulate d (λ (c : ℕ). columnSum d (now matrix) (take d (now work)) c first) ⌝ }
-    ensures { λ r. ⌜ now (work .exit) ≡ take d (now (work .entry)) ++ appliedInverse d (now (matrix .entry)) (take d (now (work .entry))) ⌝ }
+    requires { ⌜ now work ≡ take d (now work)
+        ++ tabulate d (λ (c : ℕ). columnSum d (now matrix) (take d (now work)) c first) ⌝ }
+    ensures { λ r. ⌜ now (work .exit) ≡ take d (now (work .entry))
+        ++ appliedInverse d (now (matrix .entry)) (take d (now (work .entry))) ⌝ }
 {
     let mut row = first;
     let mut at = first * d;

@@ -1,4 +1,5 @@
--- What `firstWhere` and `firstFailing` find: a place whose test holds, or fails, with none before it; or none at all. Assumes nothing.
+-- What `firstWhere` and `firstFailing` find: a place whose test holds, or fails, with none before it; or none at all.
+-- Assumes nothing.
 use mathlib.Core.Path.{_≡_, refl, sym, ap, subst}
 use mathlib.Core.Logic.{inl, inr}
 use Prim.Native.Nat.{ℕ, zero, suc, _<_}

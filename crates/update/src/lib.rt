@@ -1,4 +1,5 @@
-// The update of lloyd.rs as it is called: the steps of `lloyd_update`, with the event of each repair written to a lent row
+// The update of lloyd.rs as it is called: the steps of `lloyd_update`, with the event of each repair written to a lent
+// row
 // of slots.
 ghost use mathlib.Core.Path.{_≡_};
 ghost use mathlib.Core.Bool.{false, not, _&&_};

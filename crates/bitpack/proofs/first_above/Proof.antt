@@ -1,4 +1,5 @@
--- `first_above` meets its contract: the indices passed are at most the bound, so what is left of the list decides. Assumes nothing.
+-- `first_above` meets its contract: the indices passed are at most the bound, so what is left of the list decides.
+-- Assumes nothing.
 use mathlib.Core.Path.{_≡_, refl, sym, _∙_}
 use Prim.Native.Nat.{_-_, _≤_}
 use native.Mathlib.Omega.{arith}

@@ -1,4 +1,5 @@
--- `pack_indices` meets its contract: each check refuses as the definition does, and what passes all of them is written. Assumes nothing.
+-- `pack_indices` meets its contract: each check refuses as the definition does, and what passes all of them is written.
+-- Assumes nothing.
 use mathlib.Core.Path.{_≡_, sym, ap, _∙_}
 use mathlib.Core.List.{[], _∷_}
 use Prim.Native.Nat.{_*_, _-_, _%_, _^_}

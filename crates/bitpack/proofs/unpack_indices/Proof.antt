@@ -1,4 +1,5 @@
--- `unpack_indices` meets its contract: each check refuses as the definition does, and what passes all of them is read. Assumes nothing.
+-- `unpack_indices` meets its contract: each check refuses as the definition does, and what passes all of them is read.
+-- Assumes nothing.
 use mathlib.Core.Path.{_≡_, sym, ap, _∙_}
 use mathlib.Core.List.{[], _∷_}
 use Prim.Native.Nat.{ℕ, _*_}

@@ -1,4 +1,5 @@
--- `compact::parse_compact` meets its contract: at each return the tests that led there say which answer `parsed` gives. Assumes nothing.
+-- `compact::parse_compact` meets its contract: at each return the tests that led there say which answer `parsed` gives.
+-- Assumes nothing.
 use mathlib.Core.Path.{_≡_, sym, ap, _∙_}
 use mathlib.Core.Bool.{true, false, not}
 use mathlib.Core.List.{List}

@@ -1,4 +1,5 @@
--- `decode::gather` meets its contract: before index i the reader stands at bit i * width, and the codewords of the indices passed stand in the work. Assumes nothing.
+-- `decode::gather` meets its contract: before index i the reader stands at bit i * width, and the codewords of the
+-- indices passed stand in the work. Assumes nothing.
 use mathlib.Core.Path.{_≡_, refl, sym, ap, _∙_}
 use mathlib.Core.List.{List}
 use Prim.Native.Nat.{ℕ, _+_, _*_, _-_, _≤_, _<_}

@@ -1,4 +1,5 @@
--- `decode::scale` meets its contract: the values passed are scaled, and the first of them that is not finite is noted. Assumes nothing.
+-- `decode::scale` meets its contract: the values passed are scaled, and the first of them that is not finite is noted.
+-- Assumes nothing.
 use mathlib.Core.Path.{_≡_, refl, sym, ap, _∙_}
 use mathlib.Core.Bool.{Bool, not}
 use mathlib.Core.List.{List}

@@ -1,4 +1,5 @@
--- `encode::write_indices` meets its contract: from where the fours end, the writer stands at bit i * width of the packing of the nearest codewords before block i. Assumes nothing.
+-- `encode::write_indices` meets its contract: from where the fours end, the writer stands at bit i * width of the
+-- packing of the nearest codewords before block i. Assumes nothing.
 use mathlib.Core.Path.{_≡_, refl, sym, ap, _∙_}
 use Prim.Native.Nat.{ℕ, _+_, _*_, _-_, _/_, _≤_}
 use native.Mathlib.Nat.{div-mul-le-self, mul-le-mul-right}

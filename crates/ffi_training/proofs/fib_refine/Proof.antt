@@ -1,4 +1,5 @@
--- `ffi_training::fib_refine` meets its contract: a walk of its MIR, by hand. The function's slices and references are handed to its callees for good.
+-- `ffi_training::fib_refine` meets its contract: a walk of its MIR, by hand. The function's slices and references are
+-- handed to its callees for good.
 -- Assumes nothing.
 use mathlib.Core.Path.{_≡_, refl, sym, ap, subst, _∙_}
 use Prim.Native.Nat.{ℕ, _<_, _^_}
@@ -98,7 +99,8 @@ ref-val x = vptr (x .ptr .0) (x .ptr .1)
 abbrev stayed : Stays (fib.ended .signature .params) (fib.ended .kept)
 stayed = (stay-dropped (shrSliceOf (0 ∷ []) tt (plain (λ _. u8))) yes, (stay-dropped (plain (λ _. u32)) yes, (stay-dropped (plain (λ _. u32)) yes, (stay-dropped (plain (λ _. u32)) yes, (stay-dropped (plain (λ _. f64)) yes, (stay-dropped (plain (λ _. f64)) yes, (stay-dropped (plain (λ _. u8)) yes, (stay-dropped (plain (λ _. f64)) yes, (stay-dropped (plain (λ _. u8)) yes, (stay-dropped (plain (λ _. u64)) yes, (stay-dropped (shrSliceOf (1 ∷ []) tt (plain (λ _. u8))) yes, (stay-dropped (plain (λ _. u64)) yes, (stay-dropped (plain (λ _. u8)) yes, (stay-dropped (plain (λ _. u8)) yes, (stay-dropped (plain (λ _. u8)) yes, (stay-dropped (plain (λ _. u32)) yes, (stay-dropped (plain (λ _. u32)) yes, (stay-dropped (plain (λ _. u32)) yes, (stay-dropped (plain (λ _. u8)) yes, (stay-dropped (shrSliceOf (2 ∷ []) tt (plain (λ _. f64))) yes, (stay-dropped (shrSliceOf (3 ∷ []) tt (plain (λ _. f64))) yes, (stay-dropped (shrSliceOf (4 ∷ []) tt (plain (λ _. f64))) yes, (gave-slice (5 ∷ []) tt (plain (λ _. f32)), (gave-slice (6 ∷ []) tt (plain (λ _. f64)), (gave-slice (7 ∷ []) tt (plain (λ _. u32)), (gave-slice (8 ∷ []) tt (plain (λ _. E.the-row)), (gave-ref (9 ∷ []) tt (arrayOf (plain (λ _. u64)) 7), (gave-ref (10 ∷ []) tt (arrayOf (plain (λ _. u64)) 4), (gave-ref (11 ∷ []) tt (arrayOf (plain (λ _. f64)) 2), tt)))))))))))))))))))))))))))))
 
--- What the function is handed, as `refine_codebook` asks it: tokens and owned things of the texts ts, of the slices ss, of the events es and of the room rs, and numbers between them; P and Q are what is owned of the profile and of log2.
+-- What the function is handed, as `refine_codebook` asks it: tokens and owned things of the texts ts, of the slices ss,
+-- of the events es and of the room rs, and numbers between them; P and Q are what is owned of the profile and of log2.
 regrouped : {M : Type 1} (𝓤 : URA M) (H : Heap 𝓤) (A : Atoms 𝓤) → Given 𝓤 H A → (ts ss es rs schema ns algorithm ms slices events room : List (SProp 𝓤)) (P Q : SProp 𝓤) → ent 𝓤 (emp 𝓤) P → ent 𝓤 (emp 𝓤) Q
     → ent 𝓤 (sep 𝓤 (all 𝓤 (ts ++ (ss ++ (es ++ rs)))) (all 𝓤 (schema ++ (ns ++ (algorithm ++ (ms ++ (slices ++ (events ++ room))))))))
     (sep 𝓤 (sep 𝓤 (sep 𝓤 (all 𝓤 (ss ++ (ts ++ es))) (all 𝓤 (slices ++ (P ∷ (schema ++ (algorithm ++ (Q ∷ events))))))) (emp 𝓤)) (sep 𝓤 (all 𝓤 rs) (all 𝓤 room)))

@@ -1,4 +1,5 @@
--- `lloyd_alone::nearest_index` meets its contract: the checks in their order, and the search; small distances show what the checks of magnitude would. Assumes nothing.
+-- `lloyd_alone::nearest_index` meets its contract: the checks in their order, and the search; small distances show what
+-- the checks of magnitude would. Assumes nothing.
 use mathlib.Core.Path.{_≡_, refl, sym, ap, _∙_}
 use mathlib.Core.Bool.{true, false}
 use Prim.Native.Nat.{ℕ, _*_}

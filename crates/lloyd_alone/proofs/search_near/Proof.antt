@@ -1,4 +1,5 @@
--- `lloyd_alone::search_near` meets its contract: while every distance is near, from what the fours give, the best so far is the first least of the codewords passed. Assumes nothing.
+-- `lloyd_alone::search_near` meets its contract: while every distance is near, from what the fours give, the best so
+-- far is the first least of the codewords passed. Assumes nothing.
 use mathlib.Core.Path.{_≡_, refl, sym, _∙_}
 use mathlib.Core.Bool.{true, true≢false}
 use mathlib.Core.Logic.{⊎-elim}

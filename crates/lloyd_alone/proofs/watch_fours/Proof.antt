@@ -1,4 +1,5 @@
--- `lloyd_alone::watch_fours` meets its contract: each sum is of every fourth distance passed, and while the sums are small the best so far is the first least of the codewords passed. Assumes nothing.
+-- `lloyd_alone::watch_fours` meets its contract: each sum is of every fourth distance passed, and while the sums are
+-- small the best so far is the first least of the codewords passed. Assumes nothing.
 use mathlib.Core.Path.{_≡_, refl}
 use Prim.Native.Nat.{ℕ, _≤_, _<_, _-_, _+_, _*_, _^_}
 use native.Mathlib.Omega.{arith}

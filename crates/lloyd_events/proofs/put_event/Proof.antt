@@ -1,4 +1,5 @@
--- `lloyd_events::put_event` meets its contract: a walk of its MIR, by hand. The borrow is opened, element `at` is taken out and stored to, and the borrow is closed at the list with `e` there.
+-- `lloyd_events::put_event` meets its contract: a walk of its MIR, by hand. The borrow is opened, element `at` is taken
+-- out and stored to, and the borrow is closed at the list with `e` there.
 -- Assumes nothing.
 use mathlib.Core.Path.{refl, sym, ap, subst}
 use Prim.Native.Nat.{ℕ, _<_, _^_, _*_}
@@ -97,7 +98,8 @@ module _ {M : Type 1} (𝓤 : URA M) (H : Heap 𝓤) (A : Atoms 𝓤) (W : Given
         rewrite ! 0 (λ (p : ℕ). ‵ (fat fullShare tyPtr l₅ 0 (vptr b p))) (sym (place-is 48 o i)) refl $
         move ! (13 ∷ []) $ fsplit ! $ fsplit ! $ move ! (1 ∷ []) $ fsplit ! $ move ! (16 ∷ []) $ split ! $ move ! (2 ∷ 3 ∷ 0 ∷ []) $
         opens-slice ! tt R ys b o $ elem-out ! R (Is R) (shows 𝓤 H A R) vals (LL.tells T.the-type T′.the-laws) fullShare ys i e b o within (λ _.
-        -- [slots[at]; what it owns; the others; the open borrow; obs; auth; true; slots's fact; at's and e's; _5; …; _4; …; _3; …; _2; …; _1; …; room for _0; …]
+        -- [slots[at]; what it owns; the others; the open borrow; obs; auth; true; slots's fact; at's and e's; _5; …;
+        -- _4; …; _3; …; _2; …; _1; …; room for _0; …]
         assigns ! (of-opd ! (load ! (from ! (stop !)) (look ! 13 refl))) (from ! (hop ! (look ! 9 refl) (stop !))) (store-raw ! 0 refl (LL.lawful T.the-type T′.the-laws 𝓤 H A W .typed e _ e-is .0)) $
         move ! (1 ∷ []) $ drop ! $ owned ! R (Is R) (LL.makes T.the-type T′.the-plain 𝓤 H A) e _ e-is $ move ! (1 ∷ 0 ∷ []) $ elem-put ! R fullShare ys i e (vals e) b o within $
         closes-slice ! tt R ys zs (length-set ys i e) b o $

@@ -1,4 +1,5 @@
--- `lloyd_refine::check_refine` meets its contract: the profile first, then the lengths, then the values slice by slice. Assumes nothing.
+-- `lloyd_refine::check_refine` meets its contract: the profile first, then the lengths, then the values slice by slice.
+-- Assumes nothing.
 use mathlib.Core.Path.{_≡_, sym, ap, _∙_}
 use borrow.Author.Needs.{needs}
 use Rattle.error.specs.Numbers.{completed, checked}

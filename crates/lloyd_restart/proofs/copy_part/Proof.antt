@@ -1,4 +1,5 @@
--- `lloyd_restart::copy_part` meets its contract: the places passed hold the values of the other part, which lies apart. Assumes nothing.
+-- `lloyd_restart::copy_part` meets its contract: the places passed hold the values of the other part, which lies apart.
+-- Assumes nothing.
 use mathlib.Core.Path.{_≡_, refl, ap, _∙_}
 use mathlib.Core.Logic.{_⊎_, inl, inr, ⊎-elim}
 use Prim.Native.Nat.{ℕ, _≤_, _<_, _-_, _+_}

@@ -1,4 +1,5 @@
--- `lloyd_round::nearest_cell` meets its contract: the index found is below n, so its codeword lies within the codebook. Assumes nothing.
+-- `lloyd_round::nearest_cell` meets its contract: the index found is below n, so its codeword lies within the codebook.
+-- Assumes nothing.
 use mathlib.Core.Path.{_≡_, refl, sym, ap, _∙_, subst}
 use Prim.Native.Nat.{ℕ, _≤_, _<_, _-_, _+_, _*_}
 use native.Mathlib.Omega.{arith}

@@ -1,4 +1,5 @@
--- `lloyd_steps::begin_refine` meets its contract: the checks, the first round, and the rounds up to the first repair. Assumes nothing.
+-- `lloyd_steps::begin_refine` meets its contract: the checks, the first round, and the rounds up to the first repair.
+-- Assumes nothing.
 use mathlib.Core.Path.{_≡_, refl, sym, ap, _∙_}
 use mathlib.Core.List.{[]}
 use lib.ListN.{length}

@@ -1,4 +1,5 @@
--- `lloyd_steps::next_round` meets its contract: the words of the round are the next codebook, and the rounds left fall. Assumes nothing.
+-- `lloyd_steps::next_round` meets its contract: the words of the round are the next codebook, and the rounds left fall.
+-- Assumes nothing.
 use mathlib.Core.Path.{refl, _∙_, subst}
 use mathlib.Core.Logic.{inl}
 use mathlib.Core.List.{List}

@@ -1,4 +1,5 @@
--- `lloyd_update::begin_update` meets its contract: the checks, the means, and the repairs up to the first that is made. Assumes nothing.
+-- `lloyd_update::begin_update` meets its contract: the checks, the means, and the repairs up to the first that is made.
+-- Assumes nothing.
 use mathlib.Core.Path.{_≡_, refl, sym, ap, _∙_, subst}
 use mathlib.Core.Logic.{⊎-elim}
 use mathlib.Core.Bool.{true≢false}

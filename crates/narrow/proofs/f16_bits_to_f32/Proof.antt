@@ -1,4 +1,5 @@
--- `narrow::f16_bits_to_f32` meets its contract: a pattern with the sign's bit set stands for the negative of the rest. Assumes nothing.
+-- `narrow::f16_bits_to_f32` meets its contract: a pattern with the sign's bit set stands for the negative of the rest.
+-- Assumes nothing.
 use mathlib.Core.Path.{_≡_, sym, ap, _∙_}
 use Prim.Native.Nat.{_+_, _-_}
 use native.Mathlib.Omega.{arith}

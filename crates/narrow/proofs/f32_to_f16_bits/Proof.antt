@@ -1,4 +1,5 @@
--- `narrow::f32_to_f16_bits` meets its contract: widening loses nothing, so the binary64 pattern has x's own value. Assumes nothing.
+-- `narrow::f32_to_f16_bits` meets its contract: widening loses nothing, so the binary64 pattern has x's own value.
+-- Assumes nothing.
 use mathlib.Core.Path.{_≡_, sym, ap, _∙_, subst}
 use Prim.Native.Nat.{ℕ, _<_}
 use mathlib.Core.Bool.{not}

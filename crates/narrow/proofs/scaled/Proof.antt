@@ -1,4 +1,5 @@
--- `narrow::scaled` meets its contract: the product is exact, and the number that it is has one float in binary32. Assumes nothing.
+-- `narrow::scaled` meets its contract: the product is exact, and the number that it is has one float in binary32.
+-- Assumes nothing.
 use mathlib.Core.Path.{_≡_, refl, sym, ap, _∙_, subst}
 use Prim.Native.Nat.{ℕ, _+_, _*_, _%_, _^_, _<_}
 use native.Mathlib.Nat.{le-refl, lt-of-lt-of-le}

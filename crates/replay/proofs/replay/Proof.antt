@@ -1,4 +1,5 @@
--- `replay::replay` is safe and ends: each record leaves less of the file. Nothing else has to hold from turn to turn. Assumes nothing.
+-- `replay::replay` is safe and ends: each record leaves less of the file. Nothing else has to hold from turn to turn.
+-- Assumes nothing.
 use Prim.Native.Nat.{_-_}
 use lib.ListN.{length}
 use borrow.Author.Needs.{needs}

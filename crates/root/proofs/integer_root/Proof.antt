@@ -1,4 +1,5 @@
--- `root::integer_root` meets its contract. The loop's invariant is `State`: the root and the rest of the digits passed. Assumes nothing.
+-- `root::integer_root` meets its contract. The loop's invariant is `State`: the root and the rest of the digits passed.
+-- Assumes nothing.
 use mathlib.Core.Path.{subst}
 use mathlib.Core.Logic.{⊎-elim}
 use Prim.Native.Nat.{ℕ, _-_, _≤_, _<_}

@@ -1,4 +1,5 @@
--- `rotation::apply_inverse` meets its contract: where the checks pass, the lengths are those that `rotate_back` asks. Assumes nothing.
+-- `rotation::apply_inverse` meets its contract: where the checks pass, the lengths are those that `rotate_back` asks.
+-- Assumes nothing.
 use mathlib.Core.Path.{_≡_, sym, ap, _∙_}
 use Prim.Native.Nat.{ℕ, _*_}
 use lib.ListN.{length}

@@ -1,4 +1,5 @@
--- `rotation::dot8` meets its contract. The loop's invariant: the sum of each row is that of the products passed. Assumes nothing.
+-- `rotation::dot8` meets its contract. The loop's invariant: the sum of each row is that of the products passed.
+-- Assumes nothing.
 use mathlib.Core.Path.{_≡_, refl, ap, _∙_}
 use Prim.Native.Nat.{ℕ, _+_, _≤_, _-_}
 use native.Mathlib.Omega.{arith}

@@ -1,4 +1,5 @@
--- `rotation::rotate_eights_within` meets its contract. The loop's invariant: the outputs of the rows passed stand. Assumes nothing.
+-- `rotation::rotate_eights_within` meets its contract. The loop's invariant: the outputs of the rows passed stand.
+-- Assumes nothing.
 use mathlib.Core.Path.{_≡_, refl, sym, ap, _∙_}
 use Prim.Native.Nat.{ℕ, _+_, _*_, _≤_, _-_}
 use native.Mathlib.Omega.{arith}

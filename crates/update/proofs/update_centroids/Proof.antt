@@ -1,4 +1,5 @@
--- `update::update_centroids` meets its contract: a walk of its MIR, by hand. The slices that the function holds are the head of the context, and local i stands at i + 1.
+-- `update::update_centroids` meets its contract: a walk of its MIR, by hand. The slices that the function holds are the
+-- head of the context, and local i stands at i + 1.
 -- Assumes nothing.
 use mathlib.Core.Path.{_≡_, refl, sym, ap, subst, _∙_}
 use Prim.Native.Nat.{ℕ, _<_, _≤_, _^_, _+_, _-_}

@@ -1,4 +1,5 @@
--- `BitWriter::push` meets its contract: the value goes above the bits that are held, and each whole byte is put out. Assumes nothing.
+-- `BitWriter::push` meets its contract: the value goes above the bits that are held, and each whole byte is put out.
+-- Assumes nothing.
 use mathlib.Core.Path.{_≡_, refl, _∙_}
 use mathlib.Core.List.{List}
 use Prim.Native.Nat.{ℕ, _+_, _*_, _%_, _≤_}

@@ -1,4 +1,5 @@
--- `ffi::arithmetic::bits_of` meets its contract: the pattern of a NaN is the constant, and any other value has its own. Assumes nothing.
+-- `ffi::arithmetic::bits_of` meets its contract: the pattern of a NaN is the constant, and any other value has its own.
+-- Assumes nothing.
 use mathlib.Core.Path.{sym, ap, _∙_, subst}
 use lib.Dec.{T}
 use lib.Ieee.{binary32, toBits}

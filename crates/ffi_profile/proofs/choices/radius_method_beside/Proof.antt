@@ -1,4 +1,5 @@
--- `ffi_profile::choices::radius_method_beside` meets its contract: each answer follows from the test on its way. Assumes nothing.
+-- `ffi_profile::choices::radius_method_beside` meets its contract: each answer follows from the test on its way.
+-- Assumes nothing.
 use borrow.Author.Tests.{lt-ltb, le-ltb}
 use borrow.Author.Needs.{needs}
 use Rattle.ffi_profile.proofs.choices.radius_method_beside.Statement.{statement}

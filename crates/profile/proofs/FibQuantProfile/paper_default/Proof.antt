@@ -1,4 +1,5 @@
--- `profile::FibQuantProfile::paper_default` meets its contract: the shape is checked before the fields are made, and the fields before they are handed out. Assumes nothing.
+-- `profile::FibQuantProfile::paper_default` meets its contract: the shape is checked before the fields are made, and
+-- the fields before they are handed out. Assumes nothing.
 use mathlib.Core.Path.{_≡_, sym, ap, _∙_}
 use native.Mathlib.Omega.{arith}
 use Rattle.error.specs.Numbers.{completed, checked}

@@ -1,4 +1,5 @@
--- `profile::checks::also` meets its contract: a first refusal stays, and after an acceptance the second answer decides. Assumes nothing.
+-- `profile::checks::also` meets its contract: a first refusal stays, and after an acceptance the second answer decides.
+-- Assumes nothing.
 use Rattle.error.specs.Numbers.{checked}
 use mathlib.Core.Path.{sym}
 use Rattle.error.proofs.Refusals.{refused-first}

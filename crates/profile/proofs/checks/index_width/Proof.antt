@@ -1,4 +1,5 @@
--- `profile::checks::index_width` meets its contract: 64 less the leading zeros of n - 1 is its number of digits. Assumes nothing.
+-- `profile::checks::index_width` meets its contract: 64 less the leading zeros of n - 1 is its number of digits.
+-- Assumes nothing.
 use native.Mathlib.Omega.{arith}
 use Rattle.profile.proofs.Width.{leading-below, leading-width, small-width}
 use borrow.Author.Needs.{needs}
