@@ -15,7 +15,7 @@ use mathlib.Core.List.{List, [], _∷_}
 use lib.Dec.{eqb}
 use lib.ListN.{length, getD, take}
 use lib.Ieee.{Float}
-use Rattle.error.specs.Numbers.{Value, Outcome, completed, refused}
+use Rattle.error.specs.Numbers.{Outcome, completed, refused}
 use Rattle.profile.specs.declared.EmptyCellPolicy.{EmptyCellPolicy}
 use Rattle.lloyd_events.specs.declared.LloydRepairEvent.{LloydRepairEvent}
 use Rattle.lloyd_cells.specs.Cells.{countTo, total}

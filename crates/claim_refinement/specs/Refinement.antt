@@ -170,7 +170,7 @@ pub record AcceptedRefinement (j : Job) (b : Best) : Type 0 where
 
 -- of one refused after its checks: the rounds that were completed are a history, restart by restart, and it came to a
 -- round that
--- update alone refuses too, past its own checks; crate rule says what that refusal means
+-- update alone refuses too, past its own checks; crate claim_rule says what that refusal means
 pub record RefusedRefinement (j : Job) (n : ℕ) (vs : List Value) : Type 0 where
   pub course : Course
   pub in-restart : ℕ

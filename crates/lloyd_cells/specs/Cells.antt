@@ -2,7 +2,7 @@
 -- samples. Definitions only.
 use mathlib.Core.Path.{_≡_}
 use Prim.Native.Nat.{ℕ, zero, suc, _+_, _<_}
-use mathlib.Core.Bool.{Bool, true, false, not, _&&_, cond}
+use mathlib.Core.Bool.{true, not, _&&_, cond}
 use lib.Dec.{T, eqb}
 use lib.IntN.{pos}
 use lib.Ieee.{Float, fin, binary64, add, lt}

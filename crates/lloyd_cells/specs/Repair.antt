@@ -1,10 +1,10 @@
 -- Repair of empty cells: document 01's rule. Definitions only.
 use mathlib.Core.Path.{_≡_}
 use Prim.Native.Nat.{ℕ, zero, suc, _-_, _<_, _≤_}
-use mathlib.Core.Bool.{Bool, true, false, not, _||_, cond}
+use mathlib.Core.Bool.{false, not, _||_, cond}
 use mathlib.Core.List.{List, [], _∷_, _++_}
 use lib.Dec.{T, eqb, leb, ltb}
-use lib.IntN.{pos, negsuc}
+use lib.IntN.{negsuc}
 use lib.ListN.{length}
 use lib.Ieee.{Float, fin, binary64, add, sub, mul, div, lt, le}
 use Rattle.error.specs.Numbers.{Outcome, completed, refused, andThen, whole}
@@ -104,8 +104,7 @@ repairBy t far e r (At c) =
     (cond (leb (t .free) (length (r .events))) (refused 19 (whole (t .shown) ∷ []))
     (completed (record {
       cells = split (t .dim) (far c) norm (r .cells) c e;
-      events =
-          r .events ++ (eventOf t (r .cells) c e norm ∷ []);
+      events = r .events ++ (eventOf t (r .cells) c e norm ∷ []);
     })))
 
 abbrev pub repairCell : Terms → (ℕ → ℕ → Float) → ℕ → Repaired → Outcome Repaired

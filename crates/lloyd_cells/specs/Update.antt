@@ -1,11 +1,11 @@
 -- One update of a codebook: Lloyd's means of the cells, then the repairs. Definitions only.
 use Prim.Native.Nat.{ℕ}
 use mathlib.Core.Bool.{Bool, true, false, _&&_, cond}
-use mathlib.Core.List.{List, [], _∷_}
+use mathlib.Core.List.{[], _∷_}
 use lib.Dec.{ltb}
 use lib.IntN.{pos}
 use lib.Ieee.{Float, binary64, div, ofInt}
-use Rattle.error.specs.Numbers.{Outcome, completed, refused, whole}
+use Rattle.error.specs.Numbers.{Outcome, refused, whole}
 use Rattle.profile.specs.declared.EmptyCellPolicy.{EmptyCellPolicy}
 use Rattle.profile.specs.declared.EmptyCellPolicy.the-variants.{SplitHighestDistortion, FailClosed}
 use Rattle.lloyd_search.specs.Distance.{distance}

@@ -2,10 +2,10 @@
 // Every function here is public only for the crates above, which lend work of the right lengths.
 ghost use mathlib.Core.Path.{_≡_};
 ghost use mathlib.Core.Logic.{_⊎_};
-ghost use Prim.Native.Nat.{ℕ, _+_, _*_, _≤_, _<_, _^_};
+ghost use Prim.Native.Nat.{_+_, _*_, _≤_, _<_, _^_};
 ghost use lib.IntN.{pos};
 ghost use lib.ListN.{length, getD, set};
-ghost use lib.Ieee.{Float, nan, binary64, add, sub, mul, div, lt, ofInt};
+ghost use lib.Ieee.{nan, binary64, add, sub, div, lt, ofInt};
 ghost use Rattle.slices.specs.Lists.{patched};
 ghost use Rattle.lloyd_search.specs.Distance.{vectorOf};
 ghost use Rattle.lloyd_cells.specs.Repair.{donorTo, shift, residualNorm};

@@ -44,8 +44,7 @@ atCell next made s = record {
   iteration = s .iteration;
   next = next;
   before = s .before;
-  made =
-      made;
+  made = made;
   «init_mse» = s .«init_mse»;
   «best_mse» = s .«best_mse»;
   «best_restart» = s .«best_restart»;
@@ -70,8 +69,7 @@ withBest e s = record {
   iteration = s .iteration;
   next = s .next;
   before = s .before;
-  made =
-      s .made;
+  made = s .made;
   «init_mse» = s .«init_mse»;
   «best_mse» = e;
   «best_restart» = s .restart;

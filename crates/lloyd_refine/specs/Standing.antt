@@ -1,11 +1,11 @@
 -- Where a refinement stands between two steps, and what its work then holds. Definitions only.
 use mathlib.Core.Path.{_≡_}
 use Prim.Native.Nat.{ℕ, _*_, _<_}
-use mathlib.Core.Bool.{Bool, true, false}
+use mathlib.Core.Bool.{true, false}
 use mathlib.Core.List.{List, [], _∷_, _++_}
 use lib.ListN.{length}
 use lib.Ieee.{Float}
-use Rattle.error.specs.Numbers.{Outcome, completed, refused, andThen}
+use Rattle.error.specs.Numbers.{completed, andThen}
 use Rattle.profile.specs.declared.FibQuantProfile.{FibQuantProfile}
 use Rattle.lloyd_events.specs.declared.LloydRepairEvent.{LloydRepairEvent}
 use Rattle.lloyd_cells.specs.Repair.{Cells, Repaired, repairTo}

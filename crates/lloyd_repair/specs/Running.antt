@@ -6,13 +6,13 @@ use lib.IntN.{pos}
 use mathlib.Core.List.{List, [], _∷_, _++_}
 use lib.ListN.{length, getD}
 use lib.Ieee.{Float, nan, binary64, ofInt}
-use Rattle.error.specs.Numbers.{Outcome, completed, refused, refusal}
+use Rattle.error.specs.Numbers.{completed, refusal}
 use Rattle.lloyd_search.specs.Distance.{rowOf}
 use Rattle.lloyd_events.specs.declared.LloydRepairEvent.{LloydRepairEvent}
 use Rattle.lloyd_cells.specs.declared.Places.{Places}
 use Rattle.slices.specs.declared.First.the-variants.{At}
 use Rattle.lloyd_cells.specs.Repair.{Cells, Terms, Repaired, repairTo, donorTo}
-use Rattle.lloyd_cells.specs.Work.{Fit, Kept, Held}
+use Rattle.lloyd_cells.specs.Work.{Fit, Held}
 use Rattle.lloyd_repair.specs.declared.Numbers.{Numbers}
 use Rattle.lloyd_repair.specs.declared.RepairTerms.{RepairTerms}
 use Rattle.lloyd_repair.specs.declared.Turn.{Turn}

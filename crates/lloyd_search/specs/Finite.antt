@@ -6,7 +6,6 @@ use lib.IntN.{pos}
 use lib.Ieee.{Float, binary64, sub, ofInt}
 use lib.Ieee.Scale.{finite}
 use Rattle.ieee.specs.Sum.{sumTo, squaredDifference}
-use Rattle.lloyd_search.specs.declared.Found.{Found}
 use Rattle.lloyd_search.specs.Distance.{distance}
 use Rattle.lloyd_search.specs.Nearest.{nearest, meanError}
 

@@ -133,7 +133,7 @@ module _ {t : UpdateTerms} {xs : List Float} {slots used : ℕ} {work : List Flo
       let r = h .under .running in
       omega (arith, h .used, events-upto (termsOf (h .call)) (farOf (h .call)) (startCells (h .call)) from (h .r) (r .reached) (r .came), r .reached, r .small)
 
-  pub turn-ready : (p : Places) → p ≡ placesOf (t .«codebook_size») (t .«block_dim») → running.Ready p (numbersOf (t .«codebook_size») (t .«block_dim»)) (running.termsOf (repairTerms t slots)) xs used from work counts
+  pub turn-ready : (p : Places) → p ≡ placesOf (t .«codebook_size») (t .«block_dim») → running.ReadyRepairs p (numbersOf (t .«codebook_size») (t .«block_dim»)) (running.termsOf (repairTerms t slots)) xs used from work counts
   turn-ready p e = record { far = farOf (h .call); start = startCells (h .call); r = h .r; events = sym (h .used); running = to-turn (h .matches) p e (h .under) }
 
 -- ---- what an update has come to after a turn

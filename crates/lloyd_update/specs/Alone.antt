@@ -1,6 +1,6 @@
 -- Update called alone: its checks in document 01's order, and what it leaves in every lent buffer. Definitions only.
 use Prim.Native.Nat.{ℕ, _+_, _*_, _/_}
-use mathlib.Core.Bool.{Bool, true, false, not, cond}
+use mathlib.Core.Bool.{false, not, cond}
 use mathlib.Core.List.{List, [], _∷_, _++_}
 use lib.Dec.{eqb, leb}
 use lib.IntN.{pos}
@@ -8,7 +8,6 @@ use lib.ListN.{length, getD, replicate, drop}
 use lib.Ieee.{Float, fin}
 use Rattle.error.specs.Names.{assignmentSlice, eventSlice, floatWorkSlice, initialSlice, integerWorkSlice, samplesSlice}
 use Rattle.error.specs.Numbers.{Outcome, completed, refused, andThen, whole, leaves}
-use Rattle.ieee.specs.Sum.{plusZero}
 use Rattle.slices.specs.declared.First.{First}
 use Rattle.slices.specs.declared.First.the-variants.{Nowhere, At}
 use Rattle.slices.specs.First.{firstWhere}
@@ -19,7 +18,7 @@ use Rattle.lloyd_search.specs.Distance.{rowOf}
 use Rattle.lloyd_search.specs.Shape.{codebookShaped, samplesShaped}
 use Rattle.lloyd_events.specs.declared.LloydRepairEvent.{LloydRepairEvent}
 use Rattle.lloyd_events.specs.Events.{zeroEvent}
-use Rattle.lloyd_cells.specs.Repair.{Cells, Terms, Repaired}
+use Rattle.lloyd_cells.specs.Repair.{Terms, Repaired}
 use Rattle.lloyd_cells.specs.Update.{updated}
 
 -- what a call of update alone is given, but the contents of work and event slots

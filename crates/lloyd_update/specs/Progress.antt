@@ -6,12 +6,12 @@ use mathlib.Core.List.{List, [], _∷_, _++_}
 use lib.IntN.{pos}
 use lib.ListN.{length, getD}
 use lib.Ieee.{Float, nan, binary64, ofInt}
-use Rattle.error.specs.Numbers.{Outcome, completed, refused, andThen, refusal}
+use Rattle.error.specs.Numbers.{Outcome, completed, andThen, refusal}
 use Rattle.lloyd_search.specs.Distance.{rowOf}
 use Rattle.lloyd_events.specs.declared.LloydRepairEvent.{LloydRepairEvent}
 use Rattle.lloyd_cells.specs.declared.Places.{Places}
 use Rattle.lloyd_cells.specs.Cells.{farthest}
-use Rattle.lloyd_cells.specs.Repair.{Cells, Terms, Repaired, repairTo}
+use Rattle.lloyd_cells.specs.Repair.{Cells, Repaired, repairTo}
 use Rattle.lloyd_cells.specs.Update.{means, farthestSample, oldDistance}
 use Rattle.lloyd_cells.specs.Work.{placesAt, Gathered}
 use Rattle.lloyd_repair.specs.declared.Numbers.{Numbers}

@@ -3,7 +3,7 @@
 -- Each product and each addition is rounded to binary64, and a sum takes its terms in order from +0.
 use Prim.Native.Nat.{ℕ, _+_, _*_}
 use mathlib.Core.Bool.{cond}
-use mathlib.Core.List.{List, [], _∷_}
+use mathlib.Core.List.{List, []}
 use lib.Dec.{eqb, ltb}
 use lib.ListN.{getD}
 use lib.Ieee.{Float, nan, binary64, mul}
