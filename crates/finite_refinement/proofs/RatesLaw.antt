@@ -12,7 +12,7 @@ use lib.Ieee.Scale.{finite}
 use borrow.Author.Tests.{not-false}
 use Rattle.error.specs.Names.{paperRateField, rotationAlgorithmField, schemaField, wireRateField}
 use Rattle.error.specs.Numbers.{completed, whole, real}
-use Rattle.error.proofs.Outcomes.{passed as passed-check}
+use Rattle.error.proofs.Outcomes.{passed}
 use Rattle.error.proofs.Refusals.{also-first, also-next}
 use Rattle.ieee.proofs.Bound.{upto-finite}
 use Rattle.ieee.proofs.Value.{holds-true}
@@ -44,7 +44,7 @@ rate-finite : (field k : ℕ) (given bits : Float) → k ≤ 256 → rateOf fiel
 rate-finite field k given bits few h =
     let expected = perCoord bits k in
     let near = le (abs (sub binary64 given expected)) tolerance in
-    let agrees = holds-true (not-false (rateAgrees given expected) (passed-check (not (rateAgrees given expected)) 6 (whole field ∷ real given ∷ real expected ∷ []) _ tt h .0)) in
+    let agrees = holds-true (not-false (rateAgrees given expected) (passed (not (rateAgrees given expected)) 6 (whole field ∷ real given ∷ real expected ∷ []) _ tt h .0)) in
     let rest = and-r (finite given) (finite expected && near) agrees in
     record {
       divisor = whole-finite k few;
@@ -76,10 +76,10 @@ module _ (j : Job) where
       let p = j .profile in
       let k = dimOf j in
       let pass = checks-passed j h .valid in
-      let passed = rates-passed p (j .schema) (j .algorithm) (j .log2) (also-first (validity p (j .schema) (j .algorithm) (j .log2)) _ h) in
+      let agree = rates-passed p (j .schema) (j .algorithm) (j .log2) (also-first (validity p (j .schema) (j .algorithm) (j .log2)) _ h) in
       let paper = rateOf paperRateField (p .«paper_rate_bits_per_coord») (perCoord (j .log2) k) in
       let wire = rateOf wireRateField (p .«wire_bits_per_coord») (perCoord bits k) in (
-        rate-finite paperRateField k (p .«paper_rate_bits_per_coord») (j .log2) (pass .shape .block-most) (also-first paper wire passed),
+        rate-finite paperRateField k (p .«paper_rate_bits_per_coord») (j .log2) (pass .shape .block-most) (also-first paper wire agree),
         whole-finite (p .«wire_index_bits») (le-trans (pass .width-most) (lit≤ tt)),
-        rate-finite wireRateField k (p .«wire_bits_per_coord») bits (pass .shape .block-most) (also-next paper wire passed),
+        rate-finite wireRateField k (p .«wire_bits_per_coord») bits (pass .shape .block-most) (also-next paper wire agree),
       )

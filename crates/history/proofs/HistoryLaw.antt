@@ -11,7 +11,7 @@ use lib.Dec.{ltb}
 use lib.ListN.{length, getD, take, drop, length-append}
 use lib.Ieee.{Float}
 use Rattle.error.specs.Numbers.{Value, Outcome, completed, refused, whole}
-use Rattle.error.proofs.Outcomes.{passed as cond-passed, refused-later as cond-refused, then-completed, then-refused}
+use Rattle.error.proofs.Outcomes.{passed, refused-later, then-completed, then-refused}
 use Rattle.lloyd_search.specs.Distance.{rowOf}
 use Rattle.lloyd_events.specs.declared.LloydRepairEvent.{LloydRepairEvent}
 use Rattle.lloyd_cells.specs.Cells.{countTo, total}
@@ -48,11 +48,11 @@ module _ (c : Call) where
 
   repairs-completed : (r : Repaired) → updateOf c ≡ completed r → repairs ≡ completed r
   unfolding updated
-  repairs-completed r h = cond-passed (failsClosed (c .policy) && ltb 0 none) 14 (whole none ∷ []) repairs r h .1
+  repairs-completed r h = passed (failsClosed (c .policy) && ltb 0 none) 14 (whole none ∷ []) repairs r h .1
 
   repairs-refused : (vs : List Value) → updateOf c ≡ refused 15 vs → repairs ≡ refused 15 vs
   unfolding updated
-  repairs-refused vs h = cond-refused (failsClosed (c .policy) && ltb 0 none) 14 (whole none ∷ []) repairs 15 vs (λ q. omega arith) h
+  repairs-refused vs h = refused-later (failsClosed (c .policy) && ltb 0 none) 14 (whole none ∷ []) repairs 15 vs (λ q. omega arith) h
 
   module _ (pass : updateChecks c ≡ completed tt) where
     start-is : start .tally ≡ assignedTally (c .assignments)

@@ -11,10 +11,9 @@ use lib.IntN.{pos}
 use lib.Ieee.{Float, binary64, div, ofInt}
 use borrow.Author.Tests.{eqb-true, ltb-true, ltb-false, lt-ltb, le-ltb}
 use Rattle.error.specs.Numbers.{Value, Outcome, completed, refused, whole}
-use Rattle.error.proofs.Outcomes.{then-refused}
+use Rattle.error.proofs.Outcomes.{passed, then-refused}
 use Rattle.profile.specs.declared.EmptyCellPolicy.{EmptyCellPolicy}
 use Rattle.profile.specs.declared.EmptyCellPolicy.the-variants.{SplitHighestDistortion, FailClosed}
-use Rattle.lloyd_search.proofs.AnswersLaw.{passed-check}
 use Rattle.lloyd_cells.specs.Cells.{countTo}
 use Rattle.lloyd_cells.specs.Repair.{Repaired, repairBy, turn, repairTo}
 use Rattle.lloyd_cells.specs.Update.{failsClosed, updated}
@@ -88,7 +87,7 @@ module _ (c : Call) where
     accepts : (r : Repaired) → updateOf c ≡ completed r → Accepted c r
     unfolding updated
     accepts r h =
-        let (policy, done) = passed-check (failsClosed (c .policy) && ltb 0 none) 14 (whole none ∷ []) (repairs (c .size)) r h in
+        let (policy, done) = passed (failsClosed (c .policy) && ltb 0 none) 14 (whole none ∷ []) (repairs (c .size)) r h in
         made c pass (allowed policy) (c .size) r (le-refl (c .size)) done
 
     module _ (ok : Open c) (n : ℕ) (vs : List Value) (e : ℕ) (r : Repaired) (l : e < c .size) (came : repairs e ≡ completed r) (empty : r .cells .tally e ≡ 0) where

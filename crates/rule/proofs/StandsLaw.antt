@@ -10,11 +10,10 @@ use lib.ListN.{length}
 use lib.Ieee.{Float, le}
 use borrow.Author.Tests.{leb-true, leb-false}
 use Rattle.error.specs.Numbers.{Value, completed, refused, whole}
-use Rattle.error.proofs.Outcomes.{then-completed}
+use Rattle.error.proofs.Outcomes.{passed, completed-same, then-completed}
 use Rattle.ieee.specs.Sum.{plusZero}
 use Rattle.slices.specs.declared.First.{First}
 use Rattle.slices.specs.declared.First.the-variants.{Nowhere, At}
-use Rattle.lloyd_search.proofs.AnswersLaw.{passed-check, completed-same}
 use Rattle.lloyd_events.specs.declared.LloydRepairEvent.{LloydRepairEvent}
 use Rattle.lloyd_cells.specs.Repair.{Terms, Repaired, donorTo, leastNorm, residualNorm, eventOf, repairBy, turn, repairTo}
 use Rattle.lloyd_cells.proofs.TallyLaw.{splitBy, turn-completed}
@@ -92,8 +91,8 @@ module _ (t : Terms) (far : ℕ → ℕ → Float) (e : ℕ) (r : Repaired) wher
       → (d : ℕ) × (donorIn t r ≡ At d) × (le (norm d) leastNorm ≡ false) × (length (r .events) < t .free) × (s ≡ splitBy t far e r d)
   by-completed Nowhere q s h = let z : _≡_ {A = ℕ} 0 1 = cc in absurd (omega arith)
   by-completed (At d) q s h =
-      let direction = passed-check (le (norm d) leastNorm) 16 (whole d ∷ []) _ s h in
-      let slot = passed-check (leb (t .free) (length (r .events))) 19 (whole (t .shown) ∷ []) (completed (splitBy t far e r d)) s (direction .1) in
+      let direction = passed (le (norm d) leastNorm) 16 (whole d ∷ []) _ s h in
+      let slot = passed (leb (t .free) (length (r .events))) 19 (whole (t .shown) ∷ []) (completed (splitBy t far e r d)) s (direction .1) in
       (d, q, direction .0, leb-false (t .free) (length (r .events)) (slot .0), sym (completed-same (splitBy t far e r d) s (slot .1)))
 
   -- the reasons of a refusal
