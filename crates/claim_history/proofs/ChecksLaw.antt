@@ -1,16 +1,16 @@
 -- What an update's checks leave once they have passed: an assignment for each sample, all of them cells; and that no
 -- check answers 15.
 -- Assumes nothing.
-use mathlib.Core.Path.{_≡_}
+use mathlib.Core.Path.{_≡_, sym}
 use Prim.Native.Nat.{ℕ, _+_, _*_, _/_, _<_}
 use native.Mathlib.Omega.{arith}
-use mathlib.Core.Bool.{not}
+use mathlib.Core.Bool.{Bool, not, cond}
 use mathlib.Core.List.{List}
-use lib.Dec.{eqb, leb}
+use lib.Dec.{T, T-not, eqb, leb}
+use lib.Ieee.Fits.{eq→eqb}
 use lib.ListN.{length, getD}
-use lib.Ieee.{Float}
 use Rattle.error.specs.Numbers.{Value, Outcome, completed, refused}
-use Rattle.error.proofs.Outcomes.{refused-later}
+use Rattle.error.proofs.Outcomes.{never, refused-later}
 use Rattle.slices.specs.declared.First.{First}
 use Rattle.slices.specs.declared.First.the-variants.{Nowhere, At}
 use Rattle.slices.specs.First.{firstWhere}
@@ -19,20 +19,24 @@ use Rattle.lloyd_search.specs.Shape.{codebookShaped, samplesShaped}
 use Rattle.lloyd_update.specs.Alone.{Call, updateLimit, onlyCells, valueChecks, updateChecks}
 use Rattle.lloyd_update.proofs.CheckLaw.{checks-passed}
 
--- ---- the values
-bounded-refused : {A : Type 0} (slice : ℕ) (f : First) (rest : Outcome A) (us : List Value) → bounded slice f rest ≡ refused 15 us → rest ≡ refused 15 us
-bounded-refused slice Nowhere rest us h = h
-bounded-refused slice (At i) rest us h = let z : _≡_ {A = ℕ} 18 15 = cc in absurd (omega arith)
+-- ---- what never answers 15
+module _ {A : Type 0} where
+  abbrev pub Never : Outcome A → Type 0
+  Never o = (vs : List Value) → o ≡ refused 15 vs → ⊥
 
-assigned-not-15 : (cells : List ℕ) (n : ℕ) (f : First) (us : List Value) → onlyCells cells n f ≡ refused 15 us → ⊥
-assigned-not-15 cells n Nowhere us h = let z : _≡_ {A = ℕ} 0 1 = cc in omega arith
-assigned-not-15 cells n (At i) us h = let z : _≡_ {A = ℕ} 11 15 = cc in omega arith
+  pub never-done : (x : A) → Never (completed x)
+  never-done x vs h = never 15 vs x (sym h)
 
-values-not-15 : (n : ℕ) (codebook samples : List Float) (assignments : List ℕ) (us : List Value) → valueChecks n codebook samples assignments ≡ refused 15 us → ⊥
-unfolding valueChecks
-values-not-15 n codebook samples assignments us h =
-    assigned-not-15 assignments n (firstWhere (λ s. leb n (getD assignments s 0)) (length assignments)) us
-    (bounded-refused 2 (firstOutside updateLimit samples) _ us (bounded-refused 1 (firstOutside updateLimit codebook) _ us h))
+  pub never-cond : (b : Bool) (n : ℕ) (us : List Value) (rest : Outcome A) → T (not (eqb n 15)) → Never rest → Never (cond b (refused n us) rest)
+  never-cond b n us rest o k vs h = k vs (refused-later b n us rest 15 vs (λ e. T-not (eqb n 15) o (eq→eqb e)) h)
+
+  pub never-bounded : (slice : ℕ) (f : First) (rest : Outcome A) → Never rest → Never (bounded slice f rest)
+  never-bounded slice Nowhere rest k vs h = k vs h
+  never-bounded slice (At i) rest k vs h = let z : _≡_ {A = ℕ} 18 15 = cc in omega arith
+
+never-assigned : (cells : List ℕ) (n : ℕ) (f : First) → Never (onlyCells cells n f)
+never-assigned cells n Nowhere vs h = never-done tt vs h
+never-assigned cells n (At i) vs h = let z : _≡_ {A = ℕ} 11 15 = cc in omega arith
 
 -- ---- all the checks
 module _ (c : Call) where
@@ -45,15 +49,14 @@ module _ (c : Call) where
   all-cells h = checks-passed c h .cells
 
   pub checks-not-15 : (us : List Value) → updateChecks c ≡ refused 15 us → ⊥
-  unfolding updateChecks
-  checks-not-15 us h =
-      let codebook = refused-later (not (codebookShaped (c .size) (c .dim) (length (c .codebook)))) 7 _ _ 15 us not-7 h in
-      let samples = refused-later (not (samplesShaped (c .dim) (length (c .samples)))) 7 _ _ 15 us not-7 codebook in
-      let floats = refused-later (not (eqb (c .floatWork) (2 * (c .size * c .dim) + 2 * c .size))) 7 _ _ 15 us not-7 samples in
-      let integers = refused-later (not (eqb (c .integerWork) (c .size))) 7 _ _ 15 us not-7 floats in
-      let slots = refused-later (not (leb (c .slots) 1048576)) 7 _ _ 15 us not-7 integers in
-      let assignments = refused-later (not (eqb (length (c .assignments)) (length (c .samples) / c .dim))) 7 _ _ 15 us not-7 slots in
-      values-not-15 (c .size) (c .codebook) (c .samples) (c .assignments) us assignments
-    where
-      not-7 : _≡_ {A = ℕ} 7 15 → ⊥
-      not-7 e = omega arith
+  unfolding updateChecks valueChecks
+  checks-not-15 =
+      never-cond (not (codebookShaped (c .size) (c .dim) (length (c .codebook)))) 7 _ _ tt
+      (never-cond (not (samplesShaped (c .dim) (length (c .samples)))) 7 _ _ tt
+      (never-cond (not (eqb (c .floatWork) (2 * (c .size * c .dim) + 2 * c .size))) 7 _ _ tt
+      (never-cond (not (eqb (c .integerWork) (c .size))) 7 _ _ tt
+      (never-cond (not (leb (c .slots) 1048576)) 7 _ _ tt
+      (never-cond (not (eqb (length (c .assignments)) (length (c .samples) / c .dim))) 7 _ _ tt
+      (never-bounded 1 (firstOutside updateLimit (c .codebook)) _
+      (never-bounded 2 (firstOutside updateLimit (c .samples)) _
+      (never-assigned (c .assignments) (c .size) (firstWhere (λ s. leb (c .size) (getD (c .assignments) s 0)) (length (c .assignments)))))))))))

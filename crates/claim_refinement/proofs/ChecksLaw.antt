@@ -1,19 +1,15 @@
 -- No check of a refinement answers 15.
 -- Assumes nothing.
 use mathlib.Core.Path.{_≡_}
-use Prim.Native.Nat.{ℕ, _+_, _-_, _*_, _%_, _≤_}
-use native.Mathlib.Omega.{arith}
-use mathlib.Core.Bool.{Bool, true, false, not, _&&_, _||_, cond}
-use mathlib.Core.List.{List, [], _∷_}
-use lib.Dec.{T, T-not, eqb, leb, ltb}
-use lib.Ieee.Fits.{eq→eqb}
+use Prim.Native.Nat.{ℕ, _+_, _-_, _*_, _%_}
+use mathlib.Core.Bool.{not, _&&_, _||_}
+use mathlib.Core.List.{List}
+use lib.Dec.{eqb, leb, ltb}
 use lib.ListN.{length}
 use lib.IntN.{pos}
 use lib.Ieee.{Float, binary64, ofInt}
-use Rattle.error.specs.Numbers.{Value, Outcome, completed, refused, also, whole}
-use Rattle.slices.specs.declared.First.{First}
-use Rattle.slices.specs.declared.First.the-variants.{Nowhere, At}
-use Rattle.slices.specs.Limit.{firstOutside, bounded}
+use Rattle.error.specs.Numbers.{Value, Outcome, completed, refused, also}
+use Rattle.slices.specs.Limit.{firstOutside}
 use Rattle.profile.specs.declared.NormFormat.{NormFormat}
 use Rattle.profile.specs.declared.SourceMode.{SourceMode}
 use Rattle.profile.specs.declared.RadiusMethod.{RadiusMethod}
@@ -22,45 +18,7 @@ use Rattle.profile.specs.declared.FibQuantProfile.{FibQuantProfile}
 use Rattle.profile.specs.Fields.{profileSchema, rotationAlgorithm, sameBytes, isFp16, isCanonical, radiusFor, directionFor, sameRadius, sameDirection, indexWidth, rateAgrees}
 use Rattle.profile.specs.Checks.{named, shapeOf, sizesOf, formatsOf, widthOf, rateOf, ratesOf, methodsOf, settingsOf, numbersOf, perCoord, validity}
 use Rattle.lloyd_refine.specs.Refine.{Job, sizeOf, dimOf, countOf, restartsOf, refineLimit, lengthChecks, valueChecks, refineChecks}
-
--- ---- the tests of the lengths
-module _ (j : Job) where
-  abbrev initialBad : Bool
-  initialBad = not (eqb (length (j .initial)) (sizeOf j * dimOf j))
-
-  abbrev samplesBad : Bool
-  samplesBad = not (eqb (length (j .samples)) (countOf j * dimOf j))
-
-  abbrev matricesBad : Bool
-  matricesBad = not (eqb (length (j .matrices)) ((restartsOf j - 1) * (dimOf j * dimOf j)))
-
-  abbrev codewordsBad : Bool
-  codewordsBad = not (eqb (j .codewords) (sizeOf j * dimOf j))
-
-  abbrev floatsBad : Bool
-  floatsBad = not (eqb (j .floatWork) (4 * (sizeOf j * dimOf j) + 2 * sizeOf j))
-
-  abbrev integersBad : Bool
-  integersBad = not (eqb (j .integerWork) (sizeOf j + countOf j))
-
-  abbrev slotsBad : Bool
-  slotsBad = not (leb (j .slots) 1048576)
-
--- ---- none of them answers 15
-module _ {A : Type 0} where
-  abbrev Never : Outcome A → Type 0
-  Never o = (vs : List Value) → o ≡ refused 15 vs → ⊥
-
-  never-done : (x : A) → Never (completed x)
-  never-done x vs h = let z : _≡_ {A = ℕ} 0 1 = cc in omega arith
-
-  never-cond : (b : Bool) (n : ℕ) (us : List Value) (rest : Outcome A) → T (not (eqb n 15)) → Never rest → Never (cond b (refused n us) rest)
-  never-cond true n us rest o k vs h = let z : n ≡ 15 = cc in T-not (eqb n 15) o (eq→eqb z)
-  never-cond false n us rest o k vs h = k vs h
-
-  never-bounded : (slice : ℕ) (f : First) (rest : Outcome A) → Never rest → Never (bounded slice f rest)
-  never-bounded slice Nowhere rest k vs h = k vs h
-  never-bounded slice (At i) rest k vs h = let z : _≡_ {A = ℕ} 18 15 = cc in omega arith
+use Rattle.history.proofs.ChecksLaw.{Never, never-done, never-cond, never-bounded}
 
 never-also : (o q : Outcome Unit) → Never o → Never q → Never (also o q)
 never-also (completed u) q a b vs h = b vs h
@@ -129,13 +87,13 @@ module _ (j : Job) where
   never-lengths : Never (lengthChecks j)
   unfolding lengthChecks
   never-lengths =
-      never-cond (initialBad j) 7 _ _ tt
-      (never-cond (samplesBad j) 7 _ _ tt
-      (never-cond (matricesBad j) 7 _ _ tt
-      (never-cond (codewordsBad j) 7 _ _ tt
-      (never-cond (floatsBad j) 7 _ _ tt
-      (never-cond (integersBad j) 7 _ _ tt
-      (never-cond (slotsBad j) 7 _ _ tt
+      never-cond (not (eqb (length (j .initial)) (sizeOf j * dimOf j))) 7 _ _ tt
+      (never-cond (not (eqb (length (j .samples)) (countOf j * dimOf j))) 7 _ _ tt
+      (never-cond (not (eqb (length (j .matrices)) ((restartsOf j - 1) * (dimOf j * dimOf j)))) 7 _ _ tt
+      (never-cond (not (eqb (j .codewords) (sizeOf j * dimOf j))) 7 _ _ tt
+      (never-cond (not (eqb (j .floatWork) (4 * (sizeOf j * dimOf j) + 2 * sizeOf j))) 7 _ _ tt
+      (never-cond (not (eqb (j .integerWork) (sizeOf j + countOf j))) 7 _ _ tt
+      (never-cond (not (leb (j .slots) 1048576)) 7 _ _ tt
       (never-done tt)))))))
 
   never-values : Never (valueChecks j)

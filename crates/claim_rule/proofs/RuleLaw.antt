@@ -11,7 +11,7 @@ use lib.IntN.{pos}
 use lib.Ieee.{Float, binary64, div, ofInt}
 use borrow.Author.Tests.{eqb-true, ltb-true, ltb-false, lt-ltb, le-ltb}
 use Rattle.error.specs.Numbers.{Value, Outcome, completed, refused, whole}
-use Rattle.error.proofs.Outcomes.{then-refused}
+use Rattle.error.proofs.Outcomes.{passed, then-refused}
 use Rattle.profile.specs.declared.EmptyCellPolicy.{EmptyCellPolicy}
 use Rattle.profile.specs.declared.EmptyCellPolicy.the-variants.{SplitHighestDistortion, FailClosed}
 use Rattle.lloyd_cells.specs.Cells.{countTo}

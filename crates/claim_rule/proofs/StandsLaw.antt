@@ -11,7 +11,7 @@ use lib.ListN.{length}
 use lib.Ieee.{Float, le}
 use borrow.Author.Tests.{leb-true, leb-false}
 use Rattle.error.specs.Numbers.{Value, completed, refused, whole}
-use Rattle.error.proofs.Outcomes.{then-completed}
+use Rattle.error.proofs.Outcomes.{passed, completed-same, then-completed}
 use Rattle.ieee.specs.Sum.{plusZero}
 use Rattle.slices.specs.declared.First.{First}
 use Rattle.slices.specs.declared.First.the-variants.{Nowhere, At}
