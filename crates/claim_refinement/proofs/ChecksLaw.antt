@@ -18,7 +18,7 @@ use Rattle.profile.specs.declared.FibQuantProfile.{FibQuantProfile}
 use Rattle.profile.specs.Fields.{profileSchema, rotationAlgorithm, sameBytes, isFp16, isCanonical, radiusFor, directionFor, sameRadius, sameDirection, indexWidth, rateAgrees}
 use Rattle.profile.specs.Checks.{named, shapeOf, sizesOf, formatsOf, widthOf, rateOf, ratesOf, methodsOf, settingsOf, numbersOf, perCoord, validity}
 use Rattle.lloyd_refine.specs.Refine.{Job, sizeOf, dimOf, countOf, restartsOf, refineLimit, lengthChecks, valueChecks, refineChecks}
-use Rattle.history.proofs.ChecksLaw.{Never, never-done, never-cond, never-bounded}
+use Rattle.claim_history.proofs.ChecksLaw.{Never, never-done, never-cond, never-bounded}
 
 never-also : (o q : Outcome Unit) → Never o → Never q → Never (also o q)
 never-also (completed u) q a b vs h = b vs h
