@@ -1,5 +1,5 @@
--- Laws of the checks: the division that finds a size past 2^64 - 1, the first index above a bound, and the two answers
--- check by check. Assumes nothing.
+-- Laws of the checks: the division that finds a size past 2^64 - 1, the first
+-- index above a bound, and the two answers check by check. Assumes nothing.
 use Prim.Native.Nat.{ℕ, zero, suc, _+_, _*_, _-_, _/_, _^_, _<_, _≤_}
 use mathlib.Core.Path.{_≡_, refl, sym, _∙_}
 use mathlib.Core.Bool.{Bool, true, false, cond}

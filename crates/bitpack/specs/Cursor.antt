@@ -31,8 +31,8 @@ pub record PulledAt (bytes : List ℕ) (p w : ℕ) (pulled : Pulled) : Type 0 wh
   pub value : pulled .value ≡ field (streamBit bytes) p w
   pub next : ReaderAt bytes (p + w) (pulled .next)
 
--- of the first p bits of the stream f, those of the first `at` bytes are written, over `old`, and the other `have` are
--- held
+-- of the first p bits of the stream f, those of the first `at`
+-- bytes are written, over `old`, and the other `have` are held
 pub record Writing (f : ℕ → ℕ) (p : ℕ) (old out : List ℕ) (at acc have : ℕ) : Type 0 where
   pub binary : (j : ℕ) → f j < 2
   pub place : p ≡ 8 * at + have

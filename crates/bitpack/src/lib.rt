@@ -25,8 +25,8 @@ pub enum Scan {
     Offending(u32),
 }
 
-// A place in a packed byte string, made only by `new` and `pull`: `at` is the next byte to read, `acc` the `have` bits
-// that were read and not yet handed out.
+// A place in a packed byte string, made only by `new` and `pull`: `at` is the
+// next byte to read, `acc` the `have` bits that were read and not yet handed out.
 pub struct BitReader {
     at: usize,
     acc: u64,
@@ -39,8 +39,8 @@ pub struct Pulled {
     pub next: BitReader,
 }
 
-// A place in a byte string that is being packed, made only by `new` and `push`: `at` is the next byte to write, `acc` the
-// `have` bits that await it.
+// A place in a byte string that is being packed, made only by `new` and
+// `push`: `at` is the next byte to write, `acc` the `have` bits that await it.
 pub struct BitWriter {
     at: usize,
     acc: u64,
@@ -214,8 +214,8 @@ pub fn pack_indices(indices: &[u32], width: u8, output: &mut [u8]) -> Checked
     }
 }
 
-// The value of the bits after the first `total`, in a byte string of the length that these take. Public only for the
-// codec.
+// The value of the bits after the first `total`, in a byte string
+// of the length that these take. Public only for the codec.
 pub fn padding(bytes: &[u8], total: u64) -> u64
     requires { ⌜ length (now bytes) ≡ bytesFor total ⌝ }
     ensures { λ r. ⌜ r ≡ paddingFrom (now (bytes .entry)) total ⌝ }
@@ -243,8 +243,8 @@ fn read_indices(bytes: &[u8], width: u8, output: &mut [u32])
     }
 }
 
-// The `count` indices of a packing into the output, which has room for just these. A packing with a padding bit set is
-// refused.
+// The `count` indices of a packing into the output, which has room
+// for just these. A packing with a padding bit set is refused.
 pub fn unpack_indices(bytes: &[u8], count: u64, width: u8, output: &mut [u32]) -> Checked
     ensures { λ r. ⌜ (let o = unpackable (now (bytes .entry)) count width (length (now (output .entry))) in
         (checked r ≡ o)

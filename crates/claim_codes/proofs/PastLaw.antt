@@ -1,5 +1,5 @@
--- What is at least a whole number that the format holds stays so, or becomes infinite, through squares, sums, roots and
--- rounding. Assumes nothing.
+-- What is at least a whole number that the format holds stays so, or becomes
+-- infinite, through squares, sums, roots and rounding. Assumes nothing.
 use mathlib.Core.Path.{_≡_, refl, sym, ap, _∙_, subst}
 use mathlib.Core.Logic.{inl, inr}
 use Prim.Native.Nat.{ℕ, zero, suc, _+_, _*_, _≤_, _<_}

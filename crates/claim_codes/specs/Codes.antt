@@ -1,6 +1,6 @@
--- What demand 3 claims of codes: `EncodedBlocks`; and that decoding gets back what was encoded: `RoundTrip`.
--- proofs/CodesLaw.antt proves both of every frame that `encoding`, the definition of encode's own contract, is completed
--- with. Definitions only.
+-- What demand 3 claims of codes: `EncodedBlocks`; and that decoding gets back what was
+-- encoded: `RoundTrip`. proofs/CodesLaw.antt proves both of every frame that `encoding`,
+-- the definition of encode's own contract, is completed with. Definitions only.
 -- They speak of the frame's bytes: `parsed` and `unpackedIndices` are those of the published layout. d is the ambient
 -- dimension, k the block dimension, n the codebook size.
 use mathlib.Core.Path.{_≡_}
@@ -51,8 +51,8 @@ pub record Headed (p : FibQuantProfile) (frame : List ℕ) (parts : Parts) : Typ
 -- index i of the frame is that of the first codeword that none is strictly nearer to block i than
 pub record EncodedBlock (c : EncodeCall) (i index : ℕ) : Type 0 where
   pub chosen : FirstNearest (distanceTo c i) (c .profile .«codebook_size») index
-  -- these comparisons mean something: the block is finite, no distance is NaN or below zero, and those to codewords of
-  -- binary32 are finite
+  -- these comparisons mean something: the block is finite, no distance
+  -- is NaN or below zero, and those to codewords of binary32 are finite
   pub block-finite : (j : ℕ) → j < c .profile .«block_dim» → T (finite (blockOf c i j))
   pub no-nan : (m : ℕ) → m < c .profile .«codebook_size» → NotNegative (distanceTo c i m)
   pub distances-finite : ((j : ℕ) → j < length (c .codewords) → T (fits binary32 (getD (c .codewords) j nan)))

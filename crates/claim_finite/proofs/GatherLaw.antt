@@ -1,5 +1,5 @@
--- The sums of a cell's samples, and their means, are bounded as the samples are; so every result of the gathering and
--- of the means is finite. Assumes nothing.
+-- The sums of a cell's samples, and their means, are bounded as the samples are;
+-- so every result of the gathering and of the means is finite. Assumes nothing.
 use mathlib.Core.Path.{_≡_, sym}
 use Prim.Native.Nat.{ℕ, zero, suc, _+_, _*_, _^_, _≤_, _<_, zero-le}
 use native.Mathlib.Nat.{le-refl, le-step, lt-suc-self, lt-of-lt-of-le, one-mul, suc-mul, mul-le-mul-right}

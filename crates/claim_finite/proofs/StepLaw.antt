@@ -1,5 +1,5 @@
--- An update over any terms of at most 256 coordinates and any 10,000,000 samples, as a refinement makes it or a call
--- alone.
+-- An update over any terms of at most 256 coordinates and any
+-- 10,000,000 samples, as a refinement makes it or a call alone.
 -- Where samples are at most 2 ^ b, b at most 48, the codewords of cells that are not empty are at most 2 ^ b + e after
 -- the turns of e cells, and they never pass 2 ^ 48.
 -- Where the old codewords too are at most 2 ^ 48, every arithmetic result is finite. Assumes nothing.

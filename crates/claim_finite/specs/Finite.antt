@@ -1,7 +1,7 @@
 -- Every arithmetic result of an update is finite: each one on the way, not only those that come back. `FiniteUpdate c`
 -- says it of a call of update alone; proofs/UpdateLaw.antt proves it of every call that passes its checks.
--- (A comparison has no float for a result; the -1 and the -infinity from which searches start are constants.)
--- Definitions only.
+-- (A comparison has no float for a result; the -1 and the -infinity
+-- from which searches start are constants.) Definitions only.
 use mathlib.Core.Path.{_≡_}
 use Prim.Native.Nat.{ℕ, _/_, _≤_, _<_}
 use mathlib.Core.Bool.{not}
@@ -44,8 +44,8 @@ pub record FiniteResidual (k : ℕ) (far word : ℕ → Float) : Type 0 where
   pub squared : FiniteDistance k far word
   pub root : T (finite (residualNorm k far word))
 
--- at each coordinate: the quotient of the difference by the norm, epsilon times it, and the two codewords that are made
--- of it
+-- at each coordinate: the quotient of the difference by the norm,
+-- epsilon times it, and the two codewords that are made of it
 pub record FiniteSplit (k : ℕ) (far word : ℕ → Float) (norm : Float) : Type 0 where
   pub quotients : (j : ℕ) → j < k → T (finite (div binary64 (sub binary64 (far j) (word j)) norm))
   pub products : (j : ℕ) → j < k → T (finite (shift (far j) (word j) norm))

@@ -1,5 +1,5 @@
--- The best codebook of each number of restarts has n * k values of at most 2 ^ 48, and its error is finite. Assumes
--- nothing.
+-- The best codebook of each number of restarts has n * k values
+-- of at most 2 ^ 48, and its error is finite. Assumes nothing.
 use mathlib.Core.Path.{_≡_, subst}
 use Prim.Native.Nat.{ℕ, zero, suc, _≤_}
 use native.Mathlib.Nat.{le-of-lt}

@@ -1,5 +1,5 @@
--- Every arithmetic result of a refinement that passes its checks is finite: `refinement-finite`, at the end. Assumes
--- nothing.
+-- Every arithmetic result of a refinement that passes its checks
+-- is finite: `refinement-finite`, at the end. Assumes nothing.
 use mathlib.Core.Path.{_≡_, refl, sym}
 use Prim.Native.Nat.{ℕ, _+_, _*_, _^_, _≤_, _<_}
 use native.Mathlib.Nat.{le-refl, le-trans, le-of-eq, lt-of-lt-of-le, lt-of-le-of-lt, one-mul, mul-one}

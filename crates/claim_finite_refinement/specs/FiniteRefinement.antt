@@ -1,5 +1,5 @@
--- Every arithmetic result of a refinement is finite: each one on the way, not only those that come back, and those of a
--- refinement that is refused later too.
+-- Every arithmetic result of a refinement is finite: each one on the way, not
+-- only those that come back, and those of a refinement that is refused later too.
 -- `FiniteRefinement j` says it; proofs/FiniteRefinementLaw.antt proves it of every job that passes its checks. What
 -- follows of errors and of the report stands last; proofs/ReportLaw.antt proves it.
 -- (A comparison has no float for a result; a change of sign and a copy round nothing.) Definitions only.
@@ -29,8 +29,8 @@ pub record FiniteRate (given bits : Float) (k : ℕ) : Type 0 where
   pub quotient : T (finite (perCoord bits k))
   pub difference : T (finite (sub binary64 given (perCoord bits k)))
 
--- a k × k matrix times a codeword: each product, and in each row the sum of the first m of them, the element of the
--- result among these (m = k)
+-- a k × k matrix times a codeword: each product, and in each row the sum
+-- of the first m of them, the element of the result among these (m = k)
 pub record FiniteRotation (k : ℕ) (matrix word : List Float) : Type 0 where
   pub products : (row c : ℕ) → row < k → c < k
       → T (finite (mul binary64 (getD matrix (row * k + c) nan) (getD word c nan)))

@@ -1,5 +1,5 @@
--- What an update's checks leave once they have passed: an assignment for each sample, all of them cells; and that no
--- check answers 15.
+-- What an update's checks leave once they have passed: an assignment
+-- for each sample, all of them cells; and that no check answers 15.
 -- Assumes nothing.
 use mathlib.Core.Path.{_≡_, sym}
 use Prim.Native.Nat.{ℕ, _+_, _*_, _/_, _<_}

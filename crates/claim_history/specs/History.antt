@@ -1,12 +1,10 @@
--- What demand 3 claims of updates called alone, one after another: `History`, at the end, whose first member is one
--- claim from
--- the first codebook to the last; proofs/HistoryLaw.antt proves it of every list and every codebook. It speaks of
--- `updateAlone`,
--- `codebookAfter` and `slotsAfter`, the definitions that the contract of `update::update_centroids` cites.
--- Document 01's terms: its history is a list of requests with the codebook before the first; the book of an accepted
--- update is
--- `Tallies`, a cell's tally `tallyOf`, its gifts `donations`, filled `isFilled`, the repairs the events in the first
--- slots.
+-- What demand 3 claims of updates called alone, one after another: `History`, at the end,
+-- whose first member is one claim from the first codebook to the last; proofs/HistoryLaw.antt
+-- proves it of every list and every codebook. It speaks of `updateAlone`, `codebookAfter` and
+-- `slotsAfter`, the definitions that the contract of `update::update_centroids` cites.
+-- Document 01's terms: its history is a list of requests with the codebook before the
+-- first; the book of an accepted update is `Tallies`, a cell's tally `tallyOf`, its
+-- gifts `donations`, filled `isFilled`, the repairs the events in the first slots.
 -- Definitions only.
 use mathlib.Core.Path.{_≡_}
 use Prim.Native.Nat.{ℕ, _+_, _-_, _/_, _<_, _≤_}
@@ -143,8 +141,7 @@ pub record Tallies (c : Call) (slots : List LloydRepairEvent) (repairs : ℕ) : 
 
 -- ---- what is claimed
 -- of an accepted call: the rule came to r, the codebook now holds its codewords, the first slots its repairs, and the
--- tallies
--- are in order; whatever the slots held before
+-- tallies are in order; whatever the slots held before
 pub record AcceptedCall (c : Call) (r : Repaired) : Type 0 where
   pub rule : updateOf c ≡ completed r
   pub words : codebookAfter c ≡ wordsOf (c .size) (c .dim) (r .cells .word)
@@ -156,15 +153,15 @@ pub record RefusedCall (c : Call) (n : ℕ) : Type 0 where
   pub words : codebookAfter c ≡ c .codebook
   pub donor : c .size ≤ sampleCount c → n ≡ 15 → ⊥
 
--- a link of the chain: what is claimed of the call by what it comes to, and what `follows` from the codebook that it
--- leaves
+-- a link of the chain: what is claimed of the call by what it
+-- comes to, and what `follows` from the codebook that it leaves
 abbrev pub Link : Call → Outcome Repaired → (List Float → Type 0) → Type 0
 Link c (completed r) follows = AcceptedCall c r × follows (wordsOf (c .size) (c .dim) (r .cells .word))
 Link c (refused n vs) follows = RefusedCall c n × follows (c .codebook)
 
--- of all calls in order, from the first codebook to the last: each is given the codebook that the one before it left; an
--- accepted one makes of it what document 01's rule makes, and starves no cell and loses no sample; a refused one leaves
--- it
+-- of all calls in order, from the first codebook to the last: each is given the
+-- codebook that the one before it left; an accepted one makes of it what document
+-- 01's rule makes, and starves no cell and loses no sample; a refused one leaves it
 unfoldable pub Chain : List Request → List Float → List Float → Type 0
 Chain [] codebook last = last ≡ codebook
 Chain (q ∷ rest) codebook last =

@@ -1,5 +1,5 @@
--- A round of a refinement, called as an update alone with the codebook that stands before it, passes update's checks
--- and comes to the same.
+-- A round of a refinement, called as an update alone with the codebook
+-- that stands before it, passes update's checks and comes to the same.
 -- Assumes nothing.
 use mathlib.Core.Path.{_≡_, refl, sym, ap, _∙_}
 use Prim.Native.Nat.{ℕ, zero, suc, _+_, _-_, _*_, _/_, _%_, _≤_}

@@ -1,6 +1,5 @@
 -- The course of a refinement: what stands before each of its rounds, and what each comes to. It is document 01's, round
--- after
--- round, as far as the refinement comes.
+-- after round, as far as the refinement comes.
 -- Assumes nothing.
 use mathlib.Core.Path.{_≡_, refl, sym, ap, _∙_}
 use mathlib.Core.Logic.{inl, inr}

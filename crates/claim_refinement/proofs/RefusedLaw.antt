@@ -1,6 +1,5 @@
 -- A refinement that is refused after its checks: the rounds before are a history, it came to a round, and update alone
--- refuses
--- that round too, by the same number. Assumes nothing.
+-- refuses that round too, by the same number. Assumes nothing.
 use mathlib.Core.Path.{_≡_, refl, sym, ap, _∙_, subst}
 use mathlib.Core.Logic.{_⊎_, inl, inr}
 use Prim.Native.Nat.{ℕ, zero, suc, _-_, _≤_, _<_}

@@ -1,6 +1,5 @@
 -- The rounds of a restart are a history of updates alone, with the answers of the rounds; and the events of each stand
--- in the
--- refinement's event slots from the round's first free slot on.
+-- in the refinement's event slots from the round's first free slot on.
 -- Assumes nothing.
 use mathlib.Core.Path.{_≡_, refl, sym, ap, _∙_, subst}
 use mathlib.Core.Logic.{inl, inr}

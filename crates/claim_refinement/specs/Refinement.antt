@@ -1,10 +1,8 @@
 -- What demand 3 claims of a refinement: `AnyRefinement`, at the end; proofs/RefinementLaw.antt proves it of every job.
--- It speaks
--- of `refinement`, `roundOf`, `startOf`, `errorOf` and `slotsAfter`, the definitions for refine's own contract, and of
--- histories
--- as specs/History.antt has them.
--- Document 01's terms: the start is candidate 0, the end of restart r is candidate r + 1; the error is measured before
--- narrowing.
+-- It speaks of `refinement`, `roundOf`, `startOf`, `errorOf` and `slotsAfter`, the definitions for refine's own
+-- contract, and of histories as specs/History.antt has them.
+-- Document 01's terms: the start is candidate 0, the end of restart
+-- r is candidate r + 1; the error is measured before narrowing.
 -- Definitions only.
 use mathlib.Core.Path.{_≡_}
 use mathlib.Core.Logic.{_⊎_}
@@ -30,14 +28,13 @@ use Rattle.claim_history.specs.History.{Request, callWith, after, answers, Tall
 
 -- ---- the course of a refinement
 -- `stand r i` is what stands before round i of restart r: the codebook, and the events of all rounds before, those of
--- earlier
--- restarts too. At i = I it is the end of restart r. `repairs r i` is what round i of restart r comes to.
+-- earlier restarts too. At i = I it is the end of restart r. `repairs r i` is what round i of restart r comes to.
 pub record Course : Type 0 where
   pub stand : ℕ → ℕ → Trained
   pub repairs : ℕ → ℕ → Repaired
 
--- value i of codeword w, turned by matrix r, the first lent being 1, stored row by row: products and sums rounded, in
--- the order of row i from +0
+-- value i of codeword w, turned by matrix r, the first lent being 1, stored
+-- row by row: products and sums rounded, in the order of row i from +0
 abbrev pub turnedAt : Job → ℕ → ℕ → ℕ → Float
 turnedAt j r w i = sumTo
     (λ m. mul binary64 (getD (j .matrices) ((r - 1) * (dimOf j * dimOf j) + (i * dimOf j + m)) nan)
@@ -71,8 +68,8 @@ abbrev pub placeOf : Winner → ℕ
 placeOf start = 0
 placeOf (restart r) = suc r
 
--- of the finite errors of the candidates the least is returned, with its codebook: every other has no less, every
--- earlier one more
+-- of the finite errors of the candidates the least is returned, with
+-- its codebook: every other has no less, every earlier one more
 pub record Wins (j : Job) (c : Course) (b : Best) : Type 0 where
   pub one-of : placeOf (b .winner) < suc (restartsOf j)
   pub codebook : b .codebook ≡ candidate j c (placeOf (b .winner))
@@ -83,17 +80,15 @@ pub record Wins (j : Job) (c : Course) (b : Best) : Type 0 where
 
 -- ---- how far a refinement comes
 -- t stands before round i of restart r, or at the restart's end where i is I: the earlier restarts and the earlier
--- rounds are
--- completed. What comes later may be refused.
+-- rounds are completed. What comes later may be refused.
 pub record Reached (j : Job) (r i : ℕ) (t : Trained) : Type 0 where
   pub best : Best
   pub restarts : restartsTo j r ≡ completed best
   pub rounds : roundsTo j r (trainedFrom j r best) i ≡ completed t
 
 -- ---- the rounds of a restart are a history
--- round i of restart r where t stands, as a request to update alone: nearest codewords as assignments, and the slots
--- still
--- free
+-- round i of restart r where t stands, as a request to update
+-- alone: nearest codewords as assignments, and the slots still free
 abbrev pub roundRequest : Job → ℕ → ℕ → Trained → Request
 roundRequest j r i t = record {
   size = sizeOf j;
@@ -136,8 +131,7 @@ pub record Rounds (j : Job) (c : Course) (r n : ℕ) : Type 0 where
   pub history : History (requestsTo j c r n) (startOf j r)
 
 -- where the refinement is accepted, the events of each round of restart r stand in the slots that it leaves, from the
--- round's
--- first free one on, and the round's book (document 01's term for the tallies) is in order
+-- round's first free one on, and the round's book (document 01's term for the tallies) is in order
 pub record Logged (j : Job) (c : Course) (r : ℕ) : Type 0 where
   pub events : (i : ℕ) → i < iterationsOf j → (slots : List LloydRepairEvent)
       → take (length (c .repairs r i .events)) (drop (length (c .stand r i .events)) (slotsAfter j slots))
@@ -147,9 +141,8 @@ pub record Logged (j : Job) (c : Course) (r : ℕ) : Type 0 where
       (length (c .repairs r i .events))
 
 -- ---- a refused refinement
--- the refusal n, vs of a refinement beside what the update alone comes to: the same 14 or 16; or 19, which there shows
--- the
--- slots still free and here all slots
+-- the refusal n, vs of a refinement beside what the update alone comes to: the
+-- same 14 or 16; or 19, which there shows the slots still free and here all slots
 abbrev pub SameRefusal : Job → Trained → ℕ → List Value → Outcome Repaired → Type 0
 SameRefusal j t n vs o =
     (((n ≡ 14) ⊎ (n ≡ 16)) × (o ≡ refused n vs))
@@ -169,8 +162,7 @@ pub record AcceptedRefinement (j : Job) (b : Best) : Type 0 where
   pub reported : reportOf j b .«best_mse» ≡ b .error
 
 -- of one refused after its checks: the rounds that were completed are a history, restart by restart, and it came to a
--- round that
--- update alone refuses too, past its own checks; crate claim_rule says what that refusal means
+-- round that update alone refuses too, past its own checks; crate claim_rule says what that refusal means
 pub record RefusedRefinement (j : Job) (n : ℕ) (vs : List Value) : Type 0 where
   pub course : Course
   pub in-restart : ℕ

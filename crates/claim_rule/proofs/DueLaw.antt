@@ -1,5 +1,5 @@
--- A repair that is due: its donor is the last of largest distortion, its sample the first farthest, and the norm of its
--- residual a number. Assumes nothing.
+-- A repair that is due: its donor is the last of largest distortion, its sample
+-- the first farthest, and the norm of its residual a number. Assumes nothing.
 use mathlib.Core.Path.{_≡_, sym, subst}
 use mathlib.Core.Logic.{inl, inr}
 use Prim.Native.Nat.{ℕ, _<_}

@@ -1,5 +1,5 @@
--- The samples of a cell can be counted in rising order, and what is added up over the cell is the sum over them in that
--- order. Assumes nothing.
+-- The samples of a cell can be counted in rising order, and what is added
+-- up over the cell is the sum over them in that order. Assumes nothing.
 use mathlib.Core.Path.{_≡_, refl, sym, ap, _∙_}
 use mathlib.Core.Logic.{inl, inr}
 use Prim.Native.Nat.{ℕ, zero, suc, _<_}

@@ -1,5 +1,5 @@
--- What stands when the cells below e have had their turn, and the repair that is due then: its donor, and what its turn
--- comes to. Assumes nothing.
+-- What stands when the cells below e have had their turn, and the repair
+-- that is due then: its donor, and what its turn comes to. Assumes nothing.
 use mathlib.Core.Path.{_≡_, refl, sym, ap, _∙_, subst}
 use mathlib.Core.Logic.{_⊎_, inl, inr}
 use Prim.Native.Nat.{ℕ, zero, suc, _<_, _≤_}

@@ -1,7 +1,7 @@
--- What the rule of an update means, in document 01's words: `Rule c`, at the end; proofs/RuleLaw.antt proves it of
--- every call whose checks passed. It speaks of `updateOf`, the rule that the contract of `update::update_centroids`
--- cites, and says it without its recursion: what a cell's mean is, which repairs are made, and why an update is
--- refused. Definitions only.
+-- What the rule of an update means, in document 01's words: `Rule c`, at the end;
+-- proofs/RuleLaw.antt proves it of every call whose checks passed. It speaks of `updateOf`, the
+-- rule that the contract of `update::update_centroids` cites, and says it without its recursion:
+-- what a cell's mean is, which repairs are made, and why an update is refused. Definitions only.
 use mathlib.Core.Path.{_≡_}
 use mathlib.Core.Logic.{_⊎_}
 use Prim.Native.Nat.{ℕ, suc, _<_, _≤_}

@@ -1,5 +1,5 @@
--- Laws of the frame: little-endian numbers there and back, the lengths, which answer parsing gives, and that parsing and
--- writing undo each other. Assumes nothing.
+-- Laws of the frame: little-endian numbers there and back, the lengths, which answer parsing gives, and that parsing
+-- and writing undo each other. Assumes nothing.
 use mathlib.Core.Path.{_≡_, refl, sym, ap, _∙_, subst}
 use mathlib.Core.Bool.{true, false}
 use mathlib.Core.List.{List, [], _∷_, _++_}

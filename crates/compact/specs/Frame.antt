@@ -1,6 +1,6 @@
--- The compact frame, from its layout: 0x46 0x42 0x31 0x01, width (1 byte), block count (4), norm length (2), all
--- little-endian, then the norm and the packed indices. Bytes are numbers below 256. Definitions only; their laws are in
--- proofs/FrameLaws.antt.
+-- The compact frame, from its layout: 0x46 0x42 0x31 0x01, width (1 byte), block count
+-- (4), norm length (2), all little-endian, then the norm and the packed indices. Bytes
+-- are numbers below 256. Definitions only; their laws are in proofs/FrameLaws.antt.
 use Prim.Native.Nat.{ℕ, zero, suc, _+_, _*_, _-_, _/_, _%_, _≤_}
 use mathlib.Core.Path.{_≡_}
 use mathlib.Core.Bool.{Bool, true, cond, not, _&&_}
@@ -93,8 +93,8 @@ abbrev pub outcomeOf : List ℕ → Parsed → Outcome Parts
 outcomeOf bs (Frame f) = completed (partsOf bs f)
 outcomeOf bs (Refused r) = refusal r
 
--- the norm of a parsed frame lies within the caller's bytes (where no index follows, the parts alone would not fix its
--- length)
+-- the norm of a parsed frame lies within the caller's bytes (where
+-- no index follows, the parts alone would not fix its length)
 abbrev pub Within : List ℕ → Parsed → Type 0
 Within bs (Frame f) = 11 + f .«norm_len» ≤ length bs
 Within bs (Refused r) = Unit

@@ -1,5 +1,4 @@
-// The compact frame: its bytes written into a lent buffer, and parsed where they lie.
-// specs/Frame.antt has the layout.
+// The compact frame: its bytes written into a lent buffer, and parsed where they lie. specs/Frame.antt has the layout.
 ghost use mathlib.Core.Path.{_≡_};
 ghost use mathlib.Core.List.{_++_};
 ghost use Prim.Native.Nat.{_+_, _*_, _≤_, _<_};

@@ -45,8 +45,8 @@ module _ (bytes : List ℕ) (count w n : ℕ) where
       let f : fails i ≡ true = rw (unpacked-index bytes count w i l, le-ltb (indexAt bytes w i) n k) in
       rw (length-unpacked bytes count w, at-first fails count i l h f, unpacked-index bytes count w i l)
 
--- a frame that has passed 8 and 17 under a valid profile: `unpackable`, bitpack's own answer, refuses it by its padding
--- only
+-- a frame that has passed 8 and 17 under a valid profile:
+-- `unpackable`, bitpack's own answer, refuses it by its padding only
 pub only-padding : (p : FibQuantProfile) (bytes : List ℕ) (parts : Parts) → Valid p → parsed bytes ≡ completed parts
     → parts .width ≡ p .«wire_index_bits» → parts .count ≡ p .«ambient_dim» / p .«block_dim»
     → unpackable (parts .indices) (parts .count) (parts .width) (parts .count) ≡ unpadded parts

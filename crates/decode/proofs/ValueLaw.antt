@@ -1,5 +1,5 @@
--- The decoder's work step by step: gathered, rotated back, scaled, copied out, it is what the definition says. Assumes
--- nothing.
+-- The decoder's work step by step: gathered, rotated back, scaled,
+-- copied out, it is what the definition says. Assumes nothing.
 use mathlib.Core.Path.{_≡_, refl, sym, ap, _∙_, subst}
 use Prim.Native.Nat.{ℕ, _+_, _≤_, _<_}
 use native.Mathlib.Nat.{le-of-eq}

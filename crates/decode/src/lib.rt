@@ -78,8 +78,8 @@ pub fn check_values(matrix: &[f64], codewords: &[f32]) -> Checked
     Checked::Accepted
 }
 
-// The first of the packed indices that is not below n is refused. Nothing is kept of the others: there is no room for
-// them.
+// The first of the packed indices that is not below n is refused.
+// Nothing is kept of the others: there is no room for them.
 fn check_below(indices: &[u8], width: u8, count: usize, n: u32) -> Checked
     requires { ⌜ (width ≤ 32) × (count * width ≤ 8 * length (now indices)) ⌝ }
     ensures { λ r. ⌜ checked r ≡ below n (unpackedIndices (now (indices .entry)) count width) ⌝ }
@@ -272,8 +272,8 @@ fn reconstruct(
     Checked::Accepted
 }
 
-// The vector that a frame stands for. A refusal leaves both buffers as they were, but a value that is not finite (12)
-// has the work zeroed.
+// The vector that a frame stands for. A refusal leaves both buffers as
+// they were, but a value that is not finite (12) has the work zeroed.
 pub fn decode(
     profile: FibQuantProfile,
     schema: &[u8],

@@ -1,6 +1,5 @@
 // Encodes a vector into a compact frame: the checks, its norm, and the frame. From codec.rs of fib-quant, without
-// digests.
-// specs/Encode.antt has the order of the checks, their numbers and values, and the frame that is written.
+// digests. specs/Encode.antt has the order of the checks, their numbers and values, and the frame that is written.
 // The entry point is `encode`, at the end.
 use bitpack::BitWriter;
 use error::Checked;

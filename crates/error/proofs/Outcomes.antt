@@ -1,5 +1,5 @@
--- Outcomes, and checks one after another: what a completed one has passed, and where a refusal came from. Assumes
--- nothing.
+-- Outcomes, and checks one after another: what a completed one
+-- has passed, and where a refusal came from. Assumes nothing.
 use mathlib.Core.Path.{_≡_, refl, sym}
 use mathlib.Core.Logic.{_⊎_, inl, inr}
 use Prim.Native.Nat.{ℕ}

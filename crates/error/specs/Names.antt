@@ -1,5 +1,5 @@
--- The numbers that come back with 6, 7, 8, 9, 18 and 20, by name: profile fields, lent slices, and the sites of frame,
--- packing and report. Definitions only.
+-- The numbers that come back with 6, 7, 8, 9, 18 and 20, by name: profile fields,
+-- lent slices, and the sites of frame, packing and report. Definitions only.
 use Prim.Native.Nat.{ℕ}
 
 -- ---- slices. The codebook of update called alone is the initial one.

@@ -77,9 +77,8 @@ abbrev pub contents : {A : Type 0} → Outcome (List A) → List A → List A
 contents (completed xs) old = xs
 contents (refused n values) old = old
 
--- what a buffer holds after a job: `before` where a check refuses, `done r` where the job is accepted, `begun` where it
--- is
--- refused once it has begun
+-- what a buffer holds after a job: `before` where a check refuses, `done r`
+-- where the job is accepted, `begun` where it is refused once it has begun
 abbrev pub leaves : {A B : Type 0} → Outcome Unit → Outcome A → B → (A → B) → B → B
 leaves (refused n values) o before done begun = before
 leaves (completed u) (completed r) before done begun = done r

@@ -1,5 +1,5 @@
--- The number of a choice stands for it, and an unknown number is refused: a norm format by field 2, a source mode by
--- field 3, either method by field 8.
+-- The number of a choice stands for it, and an unknown number is refused: a
+-- norm format by field 2, a source mode by field 3, either method by field 8.
 -- Assumes nothing.
 use mathlib.Core.Path.{_≡_, refl}
 use mathlib.Core.List.{[], _∷_}

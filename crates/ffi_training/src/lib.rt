@@ -82,8 +82,8 @@ pub extern "C" fn fib_update(
     put_updated(answer, whole, real)
 }
 
-// The answer of a refinement: its two errors in `real`, the report's other members in `report`, which a refusal leaves as
-// it was.
+// The answer of a refinement: its two errors in `real`, the report's
+// other members in `report`, which a refusal leaves as it was.
 fn put_refined(
     answer: Refinement,
     report: &mut [u64; 7],

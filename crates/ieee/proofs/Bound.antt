@@ -1,7 +1,7 @@
--- Rounding does not pass a value that the format holds: where a / c is such a value, a fraction of at most a / c rounds
--- to
--- a finite float of size at most a / c. And so for sums, differences, products and quotients: for each a law `-below` (by
--- what the bound rounds to), and from it one for bounds that are whole numbers of the format. Assumes nothing.
+-- Rounding does not pass a value that the format holds: where a / c is such a value, a
+-- fraction of at most a / c rounds to a finite float of size at most a / c. And so for sums,
+-- differences, products and quotients: for each a law `-below` (by what the bound rounds
+-- to), and from it one for bounds that are whole numbers of the format. Assumes nothing.
 use mathlib.Core.Path.{_≡_, refl, sym, ap, _∙_, subst}
 use Prim.Native.Nat.{ℕ, zero, suc, _+_, _-_, _*_, _/_, _%_, _^_, _≤_, _<_, zero-le, compare}
 use native.Mathlib.Nat.{le-refl, le-trans, le-of-eq, le-of-lt, le-step, le-of-suc-le, lt-suc-self, lt-of-lt-of-le, mul-one, one-mul, mul-comm, mul-assoc, mul-left-comm, mul-right-comm, mul-le-mul, mul-le-mul-right, mul-pos, add-mul, suc-mul, mul-mul-mul-comm, zero-lt-suc, le-of-mul-le-mul-right}

@@ -1,5 +1,5 @@
--- A float that fits a format is a value of it, is determined by its value and its sign, and comes back when its value
--- is rounded. Assumes nothing.
+-- A float that fits a format is a value of it, is determined by its value
+-- and its sign, and comes back when its value is rounded. Assumes nothing.
 use mathlib.Core.Path.{_≡_, refl, sym, ap, _∙_, subst}
 use Prim.Native.Nat.{ℕ, zero, suc, _+_, _-_, _*_, _/_, _%_, _^_, _≤_, _<_}
 use native.Mathlib.Nat.{le-of-eq, lt-of-le-of-lt, lt-of-lt-of-le, le-of-suc-le-suc, lt-of-not-le, not-le-of-lt, zero-mul, one-mul, mul-one, mul-comm, mul-assoc, mul-right-comm, mul-lt-mul-of-pos-right, lt-of-mul-lt-mul-right, eq-of-mul-eq-mul-right}

@@ -33,8 +33,8 @@ pub record Holds (f : Format) (A : ℕ) : Type 0 where
   pub reach : j + prec f ≤ suc (emax f)
   pub is : A ≡ q * 2 ^ j
 
--- The fraction a / c is a value of the format: q * 2 ^ j times its smallest value, 2 ^ -low, with q of at most `prec`
--- digits, below 2 ^ (emax + 1)
+-- The fraction a / c is a value of the format: q * 2 ^ j times its smallest
+-- value, 2 ^ -low, with q of at most `prec` digits, below 2 ^ (emax + 1)
 pub record HoldsFraction (f : Format) (a c : ℕ) : Type 0 where
   pub q : ℕ
   pub j : ℕ

@@ -1,5 +1,5 @@
--- Under a bound of 2 ^ b on every coordinate, b at most 480, the sums that the search called alone keeps of its
--- distances are finite. Assumes nothing.
+-- Under a bound of 2 ^ b on every coordinate, b at most 480, the sums that
+-- the search called alone keeps of its distances are finite. Assumes nothing.
 use mathlib.Core.Path.{sym, subst}
 use Prim.Native.Nat.{ℕ, _+_, _*_, _/_, _^_, _≤_, _<_}
 use native.Mathlib.Nat.{le-trans, le-refl, lt-of-le-of-lt, add-mul, div-mul-le-self}

@@ -1,5 +1,5 @@
--- The nearest of four found in pairs, after the best so far, is what one finds in order, where the four distances are
--- finite. Assumes nothing.
+-- The nearest of four found in pairs, after the best so far, is what one
+-- finds in order, where the four distances are finite. Assumes nothing.
 use mathlib.Core.Path.{_≡_, refl, sym, ap, _∙_, subst}
 use Prim.Native.Nat.{ℕ, zero, suc, _<_}
 use native.Mathlib.Nat.{le-step, lt-suc-self}

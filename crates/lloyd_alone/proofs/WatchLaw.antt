@@ -1,5 +1,5 @@
--- A search that adds up its distances: where the sums are at most 2 ^ 250, so is every distance, and the codeword found
--- in fours is the nearest. Assumes nothing.
+-- A search that adds up its distances: where the sums are at most 2 ^ 250, so is
+-- every distance, and the codeword found in fours is the nearest. Assumes nothing.
 use mathlib.Core.Path.{_≡_, refl, sym, ap, _∙_, subst}
 use Prim.Native.Nat.{ℕ, zero, suc, _+_, _*_, _/_, _%_, _^_, _<_}
 use native.Mathlib.Nat.{div-add-mod', div-lt-iff-lt-mul, mod-lt}

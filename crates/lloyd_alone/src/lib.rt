@@ -145,8 +145,8 @@ fn search_near(codewords: &[f64], n: usize, block: &[f64]) -> Seen
     Seen { best, near }
 }
 
-// Whether the distances seen and the values of the block are so small that the block and every codeword are within
-// SEARCH_LIMIT.
+// Whether the distances seen and the values of the block are so
+// small that the block and every codeword are within SEARCH_LIMIT.
 fn small_distances(seen: Seen, block: &[f64]) -> bool
     ensures { λ r. ⌜ (r ≡ true → Small seen (now (block .entry))) ⌝ }
 {
@@ -157,8 +157,8 @@ fn small_distances(seen: Seen, block: &[f64]) -> bool
     }
 }
 
-// The codeword nearest to a block, with its distance; the first of equals. Where the distances are small, they spare
-// the scan of all codewords.
+// The codeword nearest to a block, with its distance; the first of equals.
+// Where the distances are small, they spare the scan of all codewords.
 pub fn nearest_index(
     codewords: &[f64],
     codebook_size: u64,

@@ -1,5 +1,5 @@
--- What `donorTo` finds: among the cells with tally above 1 the last of largest distortion; or that there is no such
--- cell. Assumes nothing.
+-- What `donorTo` finds: among the cells with tally above 1 the last of
+-- largest distortion; or that there is no such cell. Assumes nothing.
 use mathlib.Core.Path.{_≡_, refl, subst}
 use Prim.Native.Nat.{ℕ, zero, suc, _<_, _≤_}
 use native.Mathlib.Nat.{le-step, lt-suc-self}

@@ -1,5 +1,5 @@
--- Lloyd's step: what the samples of a cell add up to. `a s` is the cell of sample s; every sum is over the first n
--- samples. Definitions only.
+-- Lloyd's step: what the samples of a cell add up to. `a s` is the cell
+-- of sample s; every sum is over the first n samples. Definitions only.
 use mathlib.Core.Path.{_≡_}
 use Prim.Native.Nat.{ℕ, zero, suc, _+_, _<_}
 use mathlib.Core.Bool.{true, not, _&&_, cond}
@@ -35,8 +35,8 @@ farthest a d c (suc n) =
     cond (eqb (a n) c && lt (farthest a d c n .distance) (d n)) (record { sample = n; distance = d n })
     (farthest a d c n)
 
--- what is meant by it: a sample of the cell, with its distance; none of the cell is strictly farther, and each earlier
--- one of the cell is strictly nearer
+-- what is meant by it: a sample of the cell, with its distance; none of the
+-- cell is strictly farther, and each earlier one of the cell is strictly nearer
 pub record FirstFarthest (a : ℕ → ℕ) (d : ℕ → Float) (c n : ℕ) (r : Farthest) : Type 0 where
   pub within : r .sample < n
   pub member : a (r .sample) ≡ c

@@ -42,8 +42,8 @@ unfoldable pub donorTo : (ℕ → ℕ) → (ℕ → Float) → ℕ → First
 donorTo t d zero = Nowhere
 donorTo t d (suc n) = cond (ltb 1 (t n)) (orLarger d n (donorTo t d n)) (donorTo t d n)
 
--- what is meant by it: cell c has tally above 1; no such cell has a larger distortion, and each later one has a
--- strictly smaller
+-- what is meant by it: cell c has tally above 1; no such cell has
+-- a larger distortion, and each later one has a strictly smaller
 pub record LastLargest (t : ℕ → ℕ) (d : ℕ → Float) (n c : ℕ) : Type 0 where
   pub within : c < n
   pub plenty : 1 < t c
@@ -66,8 +66,8 @@ residualNorm k far word = sqrtOf binary64 (distance k far word)
 abbrev pub shift : Float → Float → Float → Float
 shift far word norm = mul binary64 epsilon (div binary64 (sub binary64 far word) norm)
 
--- The donor c gives a sample to the empty cell e: their codewords part along the residual, c's tally falls by 1, e's
--- becomes 1, both distortions become 0.
+-- The donor c gives a sample to the empty cell e: their codewords part along
+-- the residual, c's tally falls by 1, e's becomes 1, both distortions become 0.
 abbrev pub split : ℕ → (ℕ → Float) → Float → Cells → ℕ → ℕ → Cells
 split k far norm st c e = record {
   word = λ i j.

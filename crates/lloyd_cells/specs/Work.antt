@@ -18,8 +18,8 @@ use Rattle.lloyd_cells.specs.Repair.{Cells, shift}
 abbrev pub placesAt : ℕ → ℕ → ℕ → Places
 placesAt words distortions n = record { words = words; distortions = distortions; farthest = distortions + n }
 
--- the three parts of the float work stand in this order, within its length: n * k words, n distortions, n farthest
--- distances
+-- the three parts of the float work stand in this order, within
+-- its length: n * k words, n distortions, n farthest distances
 pub record Fit (p : Places) (n k L : ℕ) : Type 0 where
   pub some : 0 < k
   pub words : p .words + n * k ≤ p .distortions

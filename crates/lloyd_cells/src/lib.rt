@@ -144,8 +144,8 @@ pub fn move_back(work: &mut [f64], donor: usize, far: &[f64], norm: f64)
     }
 }
 
-// One more sample, at distance d from the old codeword of its cell. Answers whether it is the farthest of its cell so
-// far.
+// One more sample, at distance d from the old codeword of its
+// cell. Answers whether it is the farthest of its cell so far.
 pub fn gather(
     work: &mut [f64],
     counts: &mut [u32],

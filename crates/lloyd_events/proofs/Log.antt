@@ -1,5 +1,5 @@
--- The log of repairs in a row of slots: the events so far in the first slots, and the others as they were. It says
--- nothing of the crates above.
+-- The log of repairs in a row of slots: the events so far in the first
+-- slots, and the others as they were. It says nothing of the crates above.
 --     log-more         one event more is written to the slot after them.        length-more     and they are one more
 -- Assumes nothing.
 use mathlib.Core.Path.{_≡_, refl, ap}

@@ -5,8 +5,8 @@ ghost use Prim.Native.Nat.{_<_};
 ghost use lib.ListN.{length, set, replicate};
 ghost use Rattle.lloyd_events.specs.Events.{zeroEvent};
 
-// One repair: the empty cell, the cell that it was split from, and the numbers of the split. Laid out as C has it, for
-// callers in other languages.
+// One repair: the empty cell, the cell that it was split from, and the
+// numbers of the split. Laid out as C has it, for callers in other languages.
 #[repr(C)]
 pub struct LloydRepairEvent {
     pub restart: u32,

@@ -1,5 +1,5 @@
--- Refinement: its checks in document 01's order, the rounds of a restart, the restarts, and the codebook of the least
--- error. Definitions only.
+-- Refinement: its checks in document 01's order, the rounds of a restart,
+-- the restarts, and the codebook of the least error. Definitions only.
 use Prim.Native.Nat.{ℕ, zero, suc, _+_, _-_, _*_, _/_, _%_}
 use mathlib.Core.Bool.{false, not, cond}
 use mathlib.Core.List.{List, [], _∷_, _++_}

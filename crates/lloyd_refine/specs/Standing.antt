@@ -39,8 +39,8 @@ roundMeans j = meansOf (dimOf j) (sizeOf j) (countOf j) (j .samples)
 abbrev pub roundFar : Job → List Float → ℕ → ℕ → Float
 roundFar j = farOf (dimOf j) (sizeOf j) (countOf j) (j .samples)
 
--- The refinement stands in a round: earlier restarts came to b, earlier rounds of this restart to t, the repairs of
--- this round so far to u.
+-- The refinement stands in a round: earlier restarts came to b, earlier
+-- rounds of this restart to t, the repairs of this round so far to u.
 pub record InRound (j : Job) (b : Best) (t : Trained) (u : Repaired) (s : RefineState) (work : List Float)
     (ints : List ℕ) : Type 0 where
   pub checked : refineChecks j ≡ completed tt

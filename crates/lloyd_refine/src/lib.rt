@@ -1,5 +1,5 @@
-// The refinement of lloyd.rs: its checks, the repairs of a round, the end of a restart, its own end, and the test of
-// its report.
+// The refinement of lloyd.rs: its checks, the repairs of a round,
+// the end of a restart, its own end, and the test of its report.
 // A repair is a value here; the event slots are written in one place above. The public functions but the test of a
 // report are public only for the crates above.
 ghost use mathlib.Core.Path.{_≡_};
@@ -67,8 +67,8 @@ pub struct RefineState {
 }
 
 // Where a refinement stands: a repair was made and its event is to be written, or it has stopped with its answer.
-// Nothing reads its answer while it goes on, nor its event and state once it has stopped with its answer: there they
-// are free.
+// Nothing reads its answer while it goes on, nor its event and
+// state once it has stopped with its answer: there they are free.
 pub struct RefineStep {
     pub going: bool,
     // Updating has begun, so that work and event slots are zeroed if it is refused.
@@ -330,8 +330,8 @@ pub fn keep_better(
     kept
 }
 
-// The end: an accepted refinement writes the codewords from the best codebook, and work is zeroed once updating has
-// begun.
+// The end: an accepted refinement writes the codewords from the
+// best codebook, and work is zeroed once updating has begun.
 pub fn finish_refine(
     codewords: &mut [f32],
     work: &mut [f64],

@@ -86,8 +86,8 @@ pub record OneMore (p : Places) (m : Numbers) (t : Terms) (samples : List Float)
   pub event : after .events ≡ r .events ++ (e ∷ [])
   pub running : Running p m t samples far start next after work ints
 
--- What a turn says of the repairs that came to r before it, by its answer. In every case it leaves the float work below
--- the words alone.
+-- What a turn says of the repairs that came to r before it, by its
+-- answer. In every case it leaves the float work below the words alone.
 module _ (p : Places) (m : Numbers) (t : Terms) (samples : List Float) (far : ℕ → ℕ → Float) (start : Cells)
     (r : Repaired) (work : List Float) (ints : List ℕ) where
   abbrev pub Turned : Turn → Type 0

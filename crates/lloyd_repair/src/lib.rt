@@ -21,8 +21,8 @@ pub struct Numbers {
     pub in_floats: bool,
 }
 
-// What the repairs of an update are told: coordinates and cells, what their events bear, free slots, and the slots that
-// a refusal shows.
+// What the repairs of an update are told: coordinates and cells, what
+// their events bear, free slots, and the slots that a refusal shows.
 pub struct RepairTerms {
     pub dim: usize,
     pub cells: usize,

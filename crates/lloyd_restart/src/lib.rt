@@ -75,8 +75,8 @@ fn rotate_words(matrix: &[f64], initial: &[f64], work: &mut [f64], n: usize, k: 
     }
 }
 
-// Where a later restart starts: the initial codewords, rotated by the restart's own matrix, the first lent being that
-// of restart 1.
+// Where a later restart starts: the initial codewords, rotated by
+// the restart's own matrix, the first lent being that of restart 1.
 pub fn start_restart(
     initial: &[f64],
     matrices: &[f64],

@@ -33,8 +33,8 @@ module _ (k n S : ℕ) (samples codebook : List Float) where
   farOf = farthestSample k S (rowOf k samples) cellOf (rowOf k codebook)
 
 -- ---- the work of a refinement
--- Floats: the codebook of the round, the best codebook so far, the words of the update, distortions, farthest
--- distances. What is left stays unused.
+-- Floats: the codebook of the round, the best codebook so far, the words of
+-- the update, distortions, farthest distances. What is left stays unused.
 abbrev pub placesOf : ℕ → ℕ → Places
 placesOf n k = placesAt (2 * (n * k)) (3 * (n * k)) n
 

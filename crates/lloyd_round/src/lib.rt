@@ -1,5 +1,5 @@
-// A round of refinement in lent work: every sample goes to its nearest codeword and is added up there, and the cells
-// get their means.
+// A round of refinement in lent work: every sample goes to its nearest
+// codeword and is added up there, and the cells get their means.
 // The public functions are public only for the crates above, which lend work of the right lengths.
 ghost use mathlib.Core.Path.{_≡_};
 ghost use mathlib.Core.Bool.{true};

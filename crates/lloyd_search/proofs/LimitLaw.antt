@@ -1,5 +1,5 @@
--- What the check of magnitude lets pass, for the limit 2 ^ b, is at most 2 ^ b in size; and a completed call has
--- passed it. Assumes nothing.
+-- What the check of magnitude lets pass, for the limit 2 ^ b, is at most
+-- 2 ^ b in size; and a completed call has passed it. Assumes nothing.
 use mathlib.Core.Path.{_≡_, refl, sym, subst}
 use Prim.Native.Nat.{ℕ, _*_, _^_, _≤_, _<_}
 use native.Mathlib.Nat.{le-of-lt, le-of-eq, one-mul}

@@ -1,5 +1,5 @@
--- What `firstLeast` finds among finite distances: the index of the first least, with its distance; among any, an index
--- below their number. Assumes nothing.
+-- What `firstLeast` finds among finite distances: the index of the first least,
+-- with its distance; among any, an index below their number. Assumes nothing.
 use mathlib.Core.Path.{_≡_, refl, sym, _∙_, subst}
 use Prim.Native.Nat.{ℕ, zero, suc, _+_, _<_, _≤_}
 use native.Mathlib.Nat.{zero-lt-suc, lt-suc-self, le-step, le-of-eq, le-trans, le-suc}

@@ -1,5 +1,5 @@
--- The squared distance: the squares of the differences, added in the order of the coordinates from +0, each operation
--- rounded. Definitions only.
+-- The squared distance: the squares of the differences, added in the order
+-- of the coordinates from +0, each operation rounded. Definitions only.
 use Prim.Native.Nat.{ℕ, _+_, _*_}
 use mathlib.Core.List.{List}
 use lib.ListN.{getD}

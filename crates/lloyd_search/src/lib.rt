@@ -38,8 +38,8 @@ pub struct Four {
     pub fourth: f64,
 }
 
-// Public only for the crates above: the squared distances of a block and four codewords: four sums side by side, each
-// in its own order.
+// Public only for the crates above: the squared distances of a block
+// and four codewords: four sums side by side, each in its own order.
 pub fn four_distances(block: &[f64], a: &[f64], b: &[f64], c: &[f64], d: &[f64]) -> Four
     requires { ⌜ (length (now a) ≡ length (now block)) × (length (now b) ≡ length (now block))
         × (length (now c) ≡ length (now block)) × (length (now d) ≡ length (now block)) ⌝ }
@@ -119,8 +119,8 @@ fn search_fours(codewords: &[f64], fours: usize, block: &[f64]) -> Found
     best
 }
 
-// Public only for the crates above: the nearest of n codewords that stand one after another, four at a time and then
-// one at a time.
+// Public only for the crates above: the nearest of n codewords that
+// stand one after another, four at a time and then one at a time.
 pub fn search(codewords: &[f64], n: usize, block: &[f64]) -> Found
     requires { ⌜ length (now codewords) ≡ n * length (now block) ⌝ }
     ensures { λ r. ⌜ r ≡ nearest (length (now (block .entry))) n
@@ -160,8 +160,8 @@ pub fn mean_error(codewords: &[f64], n: usize, k: usize, samples: &[f64]) -> f64
     sum / ieee::from_u64(count as u64)
 }
 
-// Public only for the crates above: whether this many values are n codewords of k coordinates, within the limits of
-// calls alone.
+// Public only for the crates above: whether this many values are
+// n codewords of k coordinates, within the limits of calls alone.
 pub fn codebook_shaped(n: u64, k: u64, values: usize) -> bool
     ensures { λ r. ⌜ r ≡ codebookShaped n k values ⌝ }
 {

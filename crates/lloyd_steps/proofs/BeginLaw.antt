@@ -1,5 +1,5 @@
--- The beginning of a refinement: the initial codebook is the first restart's start and the best so far. How the rounds
--- left fall. Assumes nothing.
+-- The beginning of a refinement: the initial codebook is the first restart's
+-- start and the best so far. How the rounds left fall. Assumes nothing.
 use mathlib.Core.Path.{_≡_, refl, sym, ap, _∙_, subst}
 use Prim.Native.Nat.{ℕ, suc, _+_, _-_, _*_, _/_, _<_}
 use native.Mathlib.Nat.{suc-mul}

@@ -1,5 +1,5 @@
-// The refinement step by step: from its checks to the first repair, and from one repair to the next, over the rounds
-// and restarts between them.
+// The refinement step by step: from its checks to the first repair, and
+// from one repair to the next, over the rounds and restarts between them.
 // The public functions are public only for the crate above, which writes the event slots.
 ghost use mathlib.Core.Path.{_≡_};
 ghost use mathlib.Core.Bool.{true, false};

@@ -1,5 +1,5 @@
--- The beginning of an update alone: cleared work, samples added up, means, and where that leaves the repairs. Assumes
--- nothing.
+-- The beginning of an update alone: cleared work, samples added
+-- up, means, and where that leaves the repairs. Assumes nothing.
 use mathlib.Core.Path.{_≡_, refl, sym, ap, _∙_, subst}
 use Prim.Native.Nat.{ℕ, _+_, _*_, _≤_, _<_}
 use native.Mathlib.Nat.{le-mul-of-pos-right, mul-le-mul-right}

@@ -27,8 +27,8 @@ abbrev pub updatedOf : Updated → Outcome ℕ
 updatedOf (Repairs n) = completed n
 updatedOf (Refused r) = refusal r
 
--- Update alone lends 2 * n * k + 2 * n floats: the words, room for the numbers of the farthest samples, the
--- distortions, the farthest distances.
+-- Update alone lends 2 * n * k + 2 * n floats: the words, room for the
+-- numbers of the farthest samples, the distortions, the farthest distances.
 abbrev pub placesOf : ℕ → ℕ → Places
 placesOf n k = placesAt 0 (2 * (n * k)) n
 

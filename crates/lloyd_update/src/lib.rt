@@ -1,6 +1,6 @@
 // The update of lloyd.rs, called alone: its checks, its means, its repairs one at a time, and its end.
-// A repair is a value here; the event slots are written in one place above. The public functions are public only for
-// the crates above.
+// A repair is a value here; the event slots are written in one place
+// above. The public functions are public only for the crates above.
 ghost use mathlib.Core.Path.{_≡_};
 ghost use mathlib.Core.Bool.{true, false, cond, _&&_};
 ghost use mathlib.Core.List.{List, [], _∷_, _++_};

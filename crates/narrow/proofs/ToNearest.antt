@@ -1,5 +1,5 @@
--- `magOf` rounds to nearest, ties to even, in IEEE 754's own words (`Rounded`), at every precision and every largest
--- exponent. Assumes nothing.
+-- `magOf` rounds to nearest, ties to even, in IEEE 754's own words
+-- (`Rounded`), at every precision and every largest exponent. Assumes nothing.
 use mathlib.Core.Path.{_≡_, refl, sym, ap, _∙_, subst}
 use mathlib.Core.Logic.{_⊎_, inl, inr, _≢_}
 use Prim.Native.Nat.{ℕ, zero, suc, _+_, _-_, _*_, _/_, _%_, _^_, _≤_, _<_, min, compare, Ordering, Ordering·lt, Ordering·eq, Ordering·gt, zero-le}

@@ -1,7 +1,6 @@
--- IEEE 754's binary formats, by p, the digits of a significand, and emax, the exponent of the largest values: binary16
--- is (11, 15), binary32 (24, 127) and
--- binary64 (53, 1023). What a bit pattern stands for, and what it means to round to nearest, ties to even. Definitions
--- only.
+-- IEEE 754's binary formats, by p, the digits of a significand, and emax, the exponent of the
+-- largest values: binary16 is (11, 15), binary32 (24, 127) and binary64 (53, 1023). What a bit
+-- pattern stands for, and what it means to round to nearest, ties to even. Definitions only.
 use mathlib.Core.Path.{_≡_}
 use mathlib.Core.Logic.{_≢_}
 use Prim.Native.Nat.{ℕ, _+_, _-_, _*_, _/_, _%_, _^_, _≤_}
@@ -21,8 +20,8 @@ infOf p emax = (2 * emax + 1) * 2 ^ (p - 1)
 abbrev pub topOf : ℕ → ℕ → ℕ
 topOf p emax = 2 ^ (p - 1) * (2 * emax + 2)
 
--- The significand of the pattern m (no sign), and how often it is doubled. A field of 0 has no leading digit, and
--- counts as a field of 1.
+-- The significand of the pattern m (no sign), and how often it is
+-- doubled. A field of 0 has no leading digit, and counts as a field of 1.
 abbrev pub digitsOf : ℕ → ℕ → ℕ
 digitsOf p m = cond (ltb m (2 ^ (p - 1))) m (2 ^ (p - 1) + m % 2 ^ (p - 1))
 
@@ -42,16 +41,16 @@ apart a b = (a - b) + (b - a)
 abbrev pub offBy : ℕ → ℕ → ℕ → ℕ → ℕ → ℕ
 offBy p emax num den m = apart (num * 2 ^ lowOf p emax) (den * unitsOf p m)
 
--- m is the pattern of num / den, rounded to nearest, ties to even: no pattern of the format is nearer, and where
--- another is as near, m is even.
+-- m is the pattern of num / den, rounded to nearest, ties to even: no
+-- pattern of the format is nearer, and where another is as near, m is even.
 -- With infinity's counted as 2 ^ (emax + 1) this is also IEEE 754's rule for overflow.
 pub record Rounded (p emax num den m : ℕ) : Type 0 where
   pub within : m ≤ infOf p emax
   pub none-nearer : (o : ℕ) → o ≤ infOf p emax → offBy p emax num den m ≤ offBy p emax num den o
   pub tie-even : (o : ℕ) → o ≤ infOf p emax → o ≢ m → offBy p emax num den m ≡ offBy p emax num den o → m % 2 ≡ 0
 
--- the value of the pattern b, its sign included: every NaN pattern is `nan`, and a finite one is unitsOf p m / 2 ^
--- lowOf, exactly
+-- the value of the pattern b, its sign included: every NaN pattern
+-- is `nan`, and a finite one is unitsOf p m / 2 ^ lowOf, exactly
 unfoldable pub unpacked : ℕ → ℕ → ℕ → Float
 unfolding odd
 unpacked p emax b =

@@ -1,7 +1,7 @@
 -- A number as a bit pattern of a binary format of p digits and largest exponent emax, rounded to nearest, ties to even.
 -- Definitions only.
--- That `magOf` is what IEEE 754 says, no pattern nearer and a tie to the even one, is the law `rounded` of
--- proofs/ToNearest.antt.
+-- That `magOf` is what IEEE 754 says, no pattern nearer and a tie
+-- to the even one, is the law `rounded` of proofs/ToNearest.antt.
 use Prim.Native.Nat.{ℕ, _+_, _-_, _*_, _/_, _^_, _≤_, _<_, min}
 use mathlib.Core.Bool.{cond}
 use lib.Ieee.{Float, nan, inf, fin, Format, up, down, size, round}
@@ -10,8 +10,8 @@ use Rattle.narrow.specs.Format.{lowOf, infOf, topOf}
 
 -- The pattern of num / den, without a sign, for a den above 0. In units of the smallest value the fraction is n / den.
 -- Of its whole part k digits are dropped.
--- The pattern is k in the exponent's field and the digits kept, whose leading one adds one to the field; infinity's is
--- the most.
+-- The pattern is k in the exponent's field and the digits kept,
+-- whose leading one adds one to the field; infinity's is the most.
 unfoldable pub magOf : ℕ → ℕ → ℕ → ℕ → ℕ
 magOf p emax num den =
     let n = num * 2 ^ lowOf p emax in

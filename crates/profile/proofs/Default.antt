@@ -1,5 +1,5 @@
--- The paper's default profile: what it comes to by the checks, and that a profile that is built is valid. Assumes
--- nothing.
+-- The paper's default profile: what it comes to by the checks,
+-- and that a profile that is built is valid. Assumes nothing.
 use mathlib.Core.Path.{_≡_, sym, _∙_, subst}
 use Prim.Native.Nat.{ℕ}
 use lib.Ieee.{Float}

@@ -1,5 +1,5 @@
--- The other answers of a profile: the paper's default, the width of an index, the number of blocks, the default number
--- of samples.
+-- The other answers of a profile: the paper's default, the width of
+-- an index, the number of blocks, the default number of samples.
 -- Definitions only.
 use Prim.Native.Nat.{ℕ, _+_, _*_, _/_, _%_, _^_, min, max, _-_}
 use mathlib.Core.Bool.{cond}

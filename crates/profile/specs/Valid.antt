@@ -1,6 +1,5 @@
 -- What holds of the numbers of a valid profile, and of the width of an index: the laws are `valid` of proofs/Facts.antt
--- and
--- `least-width` of proofs/Width.antt. Definitions only.
+-- and `least-width` of proofs/Width.antt. Definitions only.
 use mathlib.Core.Path.{_≡_}
 use Prim.Native.Nat.{ℕ, _*_, _/_, _^_, _≤_, _<_}
 use Rattle.profile.specs.declared.NormFormat.the-variants.{Fp16Paper}

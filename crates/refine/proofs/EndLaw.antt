@@ -1,5 +1,5 @@
--- The end of a refinement: what its last step and the events so far say of its answer and of the buffers. Assumes
--- nothing.
+-- The end of a refinement: what its last step and the events so
+-- far say of its answer and of the buffers. Assumes nothing.
 use mathlib.Core.Path.{_≡_, refl, sym, ap, _∙_}
 use Prim.Native.Nat.{ℕ, _+_, _*_, _≤_, _<_}
 use native.Mathlib.Omega.{arith}

@@ -1,5 +1,5 @@
-// The refinement of lloyd.rs as it is called: the steps of `lloyd_steps`, with the event of each repair written to a lent
-// row of slots.
+// The refinement of lloyd.rs as it is called: the steps of `lloyd_steps`,
+// with the event of each repair written to a lent row of slots.
 ghost use mathlib.Core.Path.{_≡_};
 ghost use lib.ListN.{length};
 ghost use Rattle.error.specs.Numbers.{completed, andThen};

@@ -36,8 +36,8 @@ pub fn mse(file: &[u8], r: Reader) -> Verdict {
     }
 }
 
-// N (1 byte), k (1), length (1) and values (8 each) of the codewords, the same of the block, answer, index (4),
-// distance (8)
+// N (1 byte), k (1), length (1) and values (8 each) of the
+// codewords, the same of the block, answer, index (4), distance (8)
 pub fn nearest(file: &[u8], r: Reader) -> Verdict {
     let size = reader::number(file, r, 1);
     let dim = reader::number(file, size.next, 1);

@@ -25,8 +25,8 @@ fn write_into(
     compact::write_compact(width, count, norm, indices, &mut out[..len])
 }
 
-// width (1 byte), block count (4), norm length (1), norm, length of the indices (1), indices, output length (1),
-// answer, output
+// width (1 byte), block count (4), norm length (1), norm, length
+// of the indices (1), indices, output length (1), answer, output
 pub fn write(file: &[u8], r: Reader) -> Verdict {
     let width = reader::number(file, r, 1);
     let count = reader::number(file, width.next, 4);

@@ -1,6 +1,6 @@
-// Answers of the published Rust, replayed without it. Standard input holds inputs and answers that host/record wrote
-// down, from
-// the unchanged Rust (README.md); each input goes to the proved function, and its answer and its buffers are compared.
+// Answers of the published Rust, replayed without it. Standard input holds inputs
+// and answers that host/record wrote down, from the unchanged Rust (README.md); each
+// input goes to the proved function, and its answer and its buffers are compared.
 // For each function a line: its name, how many answers are equal, how many are not. A file of another form: `malformed`.
 mod answer;
 mod counts;

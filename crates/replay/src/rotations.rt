@@ -1,6 +1,5 @@
 // Records of apply and apply_inverse: dimension (8 bytes), length (1) and values (8 each) of the matrix, the same of
-// the input,
-// output length (1), answer, output (8 each).
+// the input, output length (1), answer, output (8 each).
 use crate::answer;
 use crate::answer::Verdict;
 use crate::parts;

@@ -1,5 +1,5 @@
--- What a root keeps: no sign, no NaN, the format, and every bound that is the square of a value of the format. Assumes
--- nothing.
+-- What a root keeps: no sign, no NaN, the format, and every bound
+-- that is the square of a value of the format. Assumes nothing.
 use mathlib.Core.Path.{_≡_, sym, ap, _∙_, subst}
 use mathlib.Core.Logic.{inl, inr}
 use Prim.Native.Nat.{ℕ, zero, suc, _+_, _*_, _/_, _%_, _^_, _≤_, _<_, zero-le}

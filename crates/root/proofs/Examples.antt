@@ -1,13 +1,13 @@
--- Worked examples of the root, by computation: its pattern for the patterns of some values, as a hardware root gives
--- them. Assumes nothing.
+-- Worked examples of the root, by computation: its pattern for the
+-- patterns of some values, as a hardware root gives them. Assumes nothing.
 use mathlib.Core.Path.{_≡_, refl}
 use mathlib.Core.List.{[], _∷_, map}
 use Prim.Native.Nat.{ℕ}
 use lib.Ieee.{binary64, nan, ofBits, toBits}
 use Rattle.root.specs.Sqrt.{sqrtOf}
 
--- 25, 2, 3, 0.1, 1e300, the neighbours of 1, the smallest and the largest subnormal value, the smallest normal and the
--- largest finite one, both zeros, infinity
+-- 25, 2, 3, 0.1, 1e300, the neighbours of 1, the smallest and the largest subnormal
+-- value, the smallest normal and the largest finite one, both zeros, infinity
 examples : map (λ (b : ℕ). toBits binary64 (sqrtOf binary64 (ofBits binary64 b)))
     (0x4039000000000000 ∷ 0x4000000000000000 ∷ 0x4008000000000000 ∷ 0x3fb999999999999a ∷ 0x7e37e43c8800759c
     ∷ 0x3fefffffffffffff ∷ 0x3ff0000000000001 ∷ 0x0000000000000001 ∷ 0x000fffffffffffff ∷ 0x0010000000000000 ∷ 0x7fefffffffffffff

@@ -1,5 +1,5 @@
--- The rounded root is the nearest binary64 value to the root, in whole numbers, and there is never a tie. Assumes
--- nothing.
+-- The rounded root is the nearest binary64 value to the root,
+-- in whole numbers, and there is never a tie. Assumes nothing.
 use mathlib.Core.Path.{_≡_, refl, sym, ap, _∙_, subst}
 use Prim.Native.Nat.{ℕ, zero, suc, _+_, _-_, _*_, _/_, _%_, _^_, _≤_, _<_}
 use native.Mathlib.Nat.{le-refl, le-trans, le-of-eq, le-of-suc-le-suc, lt-of-le-of-lt, lt-of-lt-of-le, lt-of-not-le, not-le-of-lt, add-sub-of-le, add-le-add, mul-one, mul-comm, mul-assoc, mul-left-comm, mul-right-comm, mul-le-mul-right, mul-lt-mul-of-pos-right, lt-of-mul-lt-mul-right, mul-pos, suc-mul, pow-suc, zero-lt-suc}
@@ -210,8 +210,8 @@ root-value x p f =
     let y = sqrtOf binary64 x in
     subst (λ (v : Float). HasValue v false (unitsOf 53 (toBits binary64 y)) (2 ^ low binary64)) (ofBits-toBits binary64 y (sqrt-fits binary64 x f)) (ofBits-value binary64 (toBits binary64 y) (nearest-root x p f .finite))
 
--- So the root is strictly nearer to it than to the value of any other pattern m: it lies on this side of the point half
--- way to that.
+-- So the root is strictly nearer to it than to the value of any other
+-- pattern m: it lies on this side of the point half way to that.
 module _ (f : Format) (n d r : ℕ) (h : NearestRoot f n d r) where
   pub nearer-than-higher : (m : ℕ) → r < m → 4 * inUnits f n < square (unitsOf (prec f) r + unitsOf (prec f) m) * d
   nearer-than-higher m l = lt-of-lt-of-le (h .below-upper) (mul-le-mul-right d (sq-mono _ _ (add-le-add (le-refl (unitsOf (prec f) r)) (rises (unitsOf (prec f)) (units-up (prec f)) (r + 1) m (omega arith)))))

@@ -8,8 +8,8 @@ use lib.Pow.{pow-mono}
 use Rattle.root.specs.Sqrt.{isqrt}
 use Rattle.root.proofs.Isqrt.{sq-mul, next-square, isqrt-is}
 
--- After i steps r is the root of the digits that are passed, m is the rest, and a is what is left of the digits, from
--- the place of 2 ^ 52 down.
+-- After i steps r is the root of the digits that are passed, m is the rest,
+-- and a is what is left of the digits, from the place of 2 ^ 52 down.
 pub record State (sig a r m i : ℕ) : Type 0 where
   pub left : a < 0x40000000000000
   pub rest : m ≤ 2 * r

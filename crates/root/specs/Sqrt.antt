@@ -15,9 +15,8 @@ unfolding isqrtBy size
 isqrt n = isqrtBy (size n / 2 + 1) n
 
 -- The root of num / den, rounded to the format. In units of the format's smallest value it is cut to a whole number s.
--- Where the cut loses something, s and a half is rounded:
--- the root of a value of the format has many more digits than the format keeps, so that no value, and no point half way
--- between two, lies between s and s + 1.
+-- Where the cut loses something, s and a half is rounded: the root of a value of the format has many more digits than
+-- the format keeps, so that no value, and no point half way between two, lies between s and s + 1.
 unfoldable pub rootOf : Format → ℕ → ℕ → Float
 unfolding isqrt round
 rootOf f num den =

@@ -5,9 +5,8 @@ ghost use lib.Ieee.{binary64, toBits, ofBits};
 ghost use Rattle.root.specs.Sqrt.{isqrt, rootOf, sqrtOf};
 ghost use Rattle.root.specs.Parts.{Normal};
 
-// The root of sig * 2 ^ 54, cut to a whole number. Each of the 54 steps takes two binary digits of the number down to
-// the rest,
-// and gives one of the root.
+// The root of sig * 2 ^ 54, cut to a whole number. Each of the 54 steps takes
+// two binary digits of the number down to the rest, and gives one of the root.
 fn integer_root(sig: u64) -> u64
     requires { ⌜ sig < 0x40_0000_0000_0000 ⌝ }
     ensures { λ r. ⌜ r ≡ isqrt (sig * 0x40_0000_0000_0000) ⌝ }
@@ -32,10 +31,10 @@ fn integer_root(sig: u64) -> u64
     root
 }
 
-// The pattern of the root of sig * 2 ^ h / 2 ^ 1126, where sig has 53 digits. An odd h gives sig one place more, so
-// that what is left of it is even.
-// The root has one digit more than an f64 keeps, and the last one rounds it. There is no tie: an odd root of 54 digits
-// is never exact.
+// The pattern of the root of sig * 2 ^ h / 2 ^ 1126, where sig has 53 digits.
+// An odd h gives sig one place more, so that what is left of it is even.
+// The root has one digit more than an f64 keeps, and the last one
+// rounds it. There is no tie: an odd root of 54 digits is never exact.
 fn root_pattern(sig: u64, h: u64) -> u64
     requires { ⌜ (0x10_0000_0000_0000 ≤ sig) × (sig < 0x20_0000_0000_0000) × (h < 2098) ⌝ }
     ensures { λ r. ⌜ r ≡ toBits binary64 (rootOf binary64 (sig * 2 ^ h) (2 ^ 1126)) ⌝ }

@@ -1,5 +1,5 @@
--- Eight rows at a time: their eight sums, stored one after another, are eight more elements of the product. Assumes
--- nothing.
+-- Eight rows at a time: their eight sums, stored one after another,
+-- are eight more elements of the product. Assumes nothing.
 use mathlib.Core.Path.{_≡_, ap, _∙_}
 use Prim.Native.Nat.{ℕ, _+_, _*_, _≤_}
 use native.Mathlib.Omega.{arith}

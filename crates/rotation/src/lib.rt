@@ -76,8 +76,8 @@ fn check_shape(dim: u64, matrix: usize, input: usize, output: usize) -> Checked
 }
 
 // `apply` for lengths already checked. Public only for the crates above.
-// Eight rows at a time, since their sums do not wait for each other; the rows left over, at most seven, come one at a
-// time.
+// Eight rows at a time, since their sums do not wait for each
+// other; the rows left over, at most seven, come one at a time.
 pub fn rotate(matrix: &[f64], input: &[f64], output: &mut [f64])
     requires { ⌜ length (now matrix) ≡ length (now input) * length (now input) ⌝ }
     requires { ⌜ length (now output) ≡ length (now input) ⌝ }
@@ -213,8 +213,8 @@ fn dot8(matrix: &[f64], input: &[f64], start: usize) -> EightSums
 
 // `apply_inverse` for lengths already checked.
 // Row by row into the output: the memory is read in order, and each output still gets its terms in the order of the rows.
-// Four rows at a time, since the output is then loaded and stored a quarter as often; the rows left over come one at a
-// time.
+// Four rows at a time, since the output is then loaded and stored
+// a quarter as often; the rows left over come one at a time.
 fn rotate_back(matrix: &[f64], input: &[f64], output: &mut [f64])
     requires { ⌜ length (now matrix) ≡ length (now input) * length (now input) ⌝ }
     requires { ⌜ length (now output) ≡ length (now input) ⌝ }
@@ -316,8 +316,8 @@ fn add_four_rows(
 }
 
 // `rotate` within one buffer: its first d values are the input, the d values after them become the output.
-// For a caller that has both in one work slice, of which two parts cannot be lent at a time. Public only for the crates
-// above.
+// For a caller that has both in one work slice, of which two parts
+// cannot be lent at a time. Public only for the crates above.
 pub fn rotate_within(matrix: &[f64], work: &mut [f64], d: usize)
     requires { ⌜ length (now matrix) ≡ d * d ⌝ }
     requires { ⌜ length (now work) ≡ d + d ⌝ }

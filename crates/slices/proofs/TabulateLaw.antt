@@ -1,5 +1,5 @@
--- Laws of a list given by its elements, and of a list whose first elements are so given, as a loop that writes one
--- after another leaves it.
+-- Laws of a list given by its elements, and of a list whose first elements
+-- are so given, as a loop that writes one after another leaves it.
 -- Assumes nothing.
 use mathlib.Core.Path.{_≡_, refl, sym, ap, _∙_}
 use Prim.Native.Nat.{ℕ, zero, suc, _+_, _≤_, _<_}

@@ -44,8 +44,8 @@ fn is_within(limit: f64, x: f64) -> bool
     size <= limit
 }
 
-// Whether eight values from `at` on are all within. No test waits for another, so that the processor makes several at
-// once.
+// Whether eight values from `at` on are all within. No test waits
+// for another, so that the processor makes several at once.
 fn eight_within(s: &[f64], at: usize, limit: f64) -> bool
     requires { ⌜ at + 8 ≤ length (now s) ⌝ }
     ensures { λ r. ⌜ (r ≡ true → (j : ℕ) → j < 8 → within limit (getD (now (s .entry)) (at + j) nan) ≡ true) ⌝ }
@@ -75,8 +75,8 @@ fn eights_within(s: &[f64], limit: f64) -> usize
     i
 }
 
-// The first value that is not finite, or larger than the limit in size: eight at a time while all are within, then one
-// at a time.
+// The first value that is not finite, or larger than the limit in
+// size: eight at a time while all are within, then one at a time.
 pub fn first_outside(s: &[f64], limit: f64) -> First
     ensures { λ r. ⌜ r ≡ firstOutside limit (now (s .entry)) ⌝ }
 {

@@ -1,5 +1,5 @@
--- The end of an update alone: what its last step and the events so far say of its answer and of the buffers. Assumes
--- nothing.
+-- The end of an update alone: what its last step and the events
+-- so far say of its answer and of the buffers. Assumes nothing.
 use mathlib.Core.Path.{_≡_, refl, sym, ap, _∙_}
 use Prim.Native.Nat.{ℕ, _+_, _*_, _/_, _%_, _≤_, _<_}
 use native.Mathlib.Nat.{le-refl, zero-add, mod-lt, div-lt-iff-lt-mul, div-add-mod'}

@@ -1,6 +1,5 @@
-// The update of lloyd.rs as it is called: the steps of `lloyd_update`, with the event of each repair written to a lent
-// row
-// of slots.
+// The update of lloyd.rs as it is called: the steps of `lloyd_update`,
+// with the event of each repair written to a lent row of slots.
 ghost use mathlib.Core.Path.{_≡_};
 ghost use mathlib.Core.Bool.{false, not, _&&_};
 ghost use mathlib.Core.List.{[]};
@@ -46,8 +45,8 @@ fn refused_late(s: Step) -> bool
     false
 }
 
-// One update of a codebook: each cell's mean, then the repairs of the empty cells, whose events stand in the first
-// slots.
+// One update of a codebook: each cell's mean, then the repairs
+// of the empty cells, whose events stand in the first slots.
 pub fn update_centroids(
     codebook: &mut [f64],
     samples: &[f64],

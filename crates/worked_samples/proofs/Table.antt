@@ -1,6 +1,5 @@
 -- THE FACT: every starred sample of document 01 comes out as the paper says, and a default profile is built. It is
--- computed from the
--- definitions that the contracts cite. Assumes nothing.
+-- computed from the definitions that the contracts cite. Assumes nothing.
 use mathlib.Core.Path.{_≡_, refl}
 use lib.Ieee.{ofInt, round, size, span, climb, units, odd, sum, add, sub, neg, mul, div, lt, eq, le}
 use lib.Count.{trailingZeros}

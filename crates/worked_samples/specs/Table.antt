@@ -1,5 +1,5 @@
--- Document 01's starred samples: what the definitions give, beside what the paper says; and a witness of a default
--- profile.
+-- Document 01's starred samples: what the definitions give,
+-- beside what the paper says; and a witness of a default profile.
 -- What is stated is written out as values, so that no definition of the library stands on both sides. Definitions only.
 use mathlib.Core.Path.{_≡_}
 use Prim.Native.Nat.{ℕ}
@@ -49,8 +49,8 @@ unfoldable pub floats : List ℕ → List Float
 unfolding float
 floats ns = map float ns
 
--- an update of the codewords 0 and 10 with every sample in cell 0, and what it comes to: each repair's donor, tally,
--- distortion and norm, then the codewords
+-- an update of the codewords 0 and 10 with every sample in cell 0, and what it
+-- comes to: each repair's donor, tally, distortion and norm, then the codewords
 abbrev repairsOf : List LloydRepairEvent → List Value
 repairsOf [] = []
 repairsOf (e ∷ es) =
@@ -157,8 +157,8 @@ unfoldable pub rootRow : Row
 unfolding update floats float
 rootRow = record { given = real (normOf (floats (3 ∷ 4 ∷ []))) ∷ []; stated = real (fin false 5 (pos 0)) ∷ [] }
 
--- No starred sample but a witness: a default profile is built, here of 8 values in blocks of 2 and 4 codewords, log2 of
--- which is 2.
+-- No starred sample but a witness: a default profile is built, here
+-- of 8 values in blocks of 2 and 4 codewords, log2 of which is 2.
 -- Its width of an index, its restarts and its training samples.
 abbrev profileShown : FibQuantProfile → List Value
 profileShown p = numbers (p .«wire_index_bits» ∷ p .«lloyd_restarts» ∷ p .«training_samples» ∷ [])

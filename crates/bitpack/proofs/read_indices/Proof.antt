@@ -1,5 +1,5 @@
--- `read_indices` meets its contract: before index i the reader stands at bit i * width, and the indices before it are
--- stored. Assumes nothing.
+-- `read_indices` meets its contract: before index i the reader stands at
+-- bit i * width, and the indices before it are stored. Assumes nothing.
 use mathlib.Core.Path.{_≡_, refl, ap, _∙_}
 use Prim.Native.Nat.{ℕ, _+_, _*_, _-_, _≤_}
 use native.Mathlib.Omega.{arith}

@@ -1,5 +1,5 @@
--- `compact::has_magic` meets its contract: the bytes tested before each return say how `magicIn` computes. Assumes
--- nothing.
+-- `compact::has_magic` meets its contract: the bytes tested
+-- before each return say how `magicIn` computes. Assumes nothing.
 use mathlib.Core.Path.{_≡_}
 use mathlib.Core.Bool.{false}
 use mathlib.Core.List.{List}

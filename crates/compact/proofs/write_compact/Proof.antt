@@ -1,5 +1,5 @@
--- `compact::write_compact` meets its contract: the tests that led to a return say which answer `writing` gives, and the
--- three writes leave the frame.
+-- `compact::write_compact` meets its contract: the tests that led to a return
+-- say which answer `writing` gives, and the three writes leave the frame.
 -- Assumes nothing.
 use mathlib.Core.Path.{_≡_, sym, ap, _∙_}
 use mathlib.Core.List.{List, [], _∷_, _++_, append-nil}

@@ -1,5 +1,5 @@
--- `compact::write_part` meets its contract. The invariant of its loop: the output is what it was with the first i bytes
--- of the part pasted in.
+-- `compact::write_part` meets its contract. The invariant of its loop:
+-- the output is what it was with the first i bytes of the part pasted in.
 -- Assumes nothing.
 use mathlib.Core.Path.{_≡_, refl, ap, _∙_}
 use mathlib.Core.List.{List}

@@ -1,5 +1,5 @@
--- `decode::check_below` meets its contract: before index i the reader stands at bit i * width, and no index before it
--- fails. Assumes nothing.
+-- `decode::check_below` meets its contract: before index i the reader
+-- stands at bit i * width, and no index before it fails. Assumes nothing.
 use mathlib.Core.Path.{_≡_, refl, sym, ap, _∙_}
 use mathlib.Core.Bool.{false}
 use mathlib.Core.List.{[], _∷_}

@@ -1,5 +1,5 @@
--- `decode::read_code` meets its contract: each check refuses as the definition does, and the norm comes last. Assumes
--- nothing.
+-- `decode::read_code` meets its contract: each check refuses as
+-- the definition does, and the norm comes last. Assumes nothing.
 use mathlib.Core.Path.{_≡_, sym, ap, _∙_}
 use native.Mathlib.Omega.{arith}
 use Rattle.error.specs.Numbers.{completed, checked}

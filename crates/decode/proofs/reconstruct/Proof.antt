@@ -1,5 +1,5 @@
--- `decode::reconstruct` meets its contract: gathered, rotated back, scaled; then either refused with the work zeroed,
--- or copied out. Assumes nothing.
+-- `decode::reconstruct` meets its contract: gathered, rotated back, scaled;
+-- then either refused with the work zeroed, or copied out. Assumes nothing.
 use mathlib.Core.Path.{_≡_, sym, ap, _∙_}
 use mathlib.Core.List.{List, [], _∷_}
 use Prim.Native.Nat.{ℕ, _*_}

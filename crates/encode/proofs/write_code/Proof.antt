@@ -1,5 +1,5 @@
--- `encode::write_code` meets its contract: normalized, rotated, rounded, searched; then the work is zeroed. Assumes
--- nothing.
+-- `encode::write_code` meets its contract: normalized, rotated,
+-- rounded, searched; then the work is zeroed. Assumes nothing.
 use mathlib.Core.Path.{_≡_, refl, ap, _∙_}
 use mathlib.Core.List.{List}
 use Prim.Native.Nat.{ℕ, _-_, _/_}

@@ -1,5 +1,5 @@
--- `encode::write_fours` meets its contract: before a turn the writer stands at the bit of the first of its four
--- indices. Assumes nothing.
+-- `encode::write_fours` meets its contract: before a turn the writer
+-- stands at the bit of the first of its four indices. Assumes nothing.
 use mathlib.Core.Path.{_≡_, refl, ap}
 use Prim.Native.Nat.{ℕ, _+_, _*_, _-_, _/_, _^_, _≤_, _<_}
 use native.Mathlib.Nat.{add-zero, zero-mul, add-mul, mul-le-mul-right}

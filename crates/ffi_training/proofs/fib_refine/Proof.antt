@@ -1,5 +1,5 @@
--- `ffi_training::fib_refine` meets its contract: a walk of its MIR, by hand. The function's slices and references are
--- handed to its callees for good.
+-- `ffi_training::fib_refine` meets its contract: a walk of its MIR, by hand.
+-- The function's slices and references are handed to its callees for good.
 -- Assumes nothing.
 use mathlib.Core.Path.{_≡_, refl, sym, ap, subst, _∙_}
 use Prim.Native.Nat.{ℕ, _<_, _^_}

@@ -1,5 +1,5 @@
--- `lloyd_alone::mse_for_codebook` meets its contract: the checks in their order, and then the mean error. Assumes
--- nothing.
+-- `lloyd_alone::mse_for_codebook` meets its contract: the checks
+-- in their order, and then the mean error. Assumes nothing.
 use mathlib.Core.Path.{_≡_, sym, _∙_}
 use mathlib.Core.Bool.{true, false}
 use lib.Dec.{eqb}

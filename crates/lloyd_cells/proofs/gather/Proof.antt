@@ -1,5 +1,5 @@
--- `lloyd_cells::gather` meets its contract: the farthest distances stand apart from the sums, so that the test is of
--- the first one. Assumes nothing.
+-- `lloyd_cells::gather` meets its contract: the farthest distances stand
+-- apart from the sums, so that the test is of the first one. Assumes nothing.
 use mathlib.Core.Path.{_≡_, refl, sym, ap, _∙_}
 use mathlib.Core.Bool.{true, false}
 use Prim.Native.Nat.{ℕ, _+_, _*_, _≤_, _<_}

@@ -1,5 +1,5 @@
--- `lloyd_cells::move_to` meets its contract: the places passed hold the moved coordinates, and the donor's codeword is
--- apart from them. Assumes nothing.
+-- `lloyd_cells::move_to` meets its contract: the places passed hold the moved
+-- coordinates, and the donor's codeword is apart from them. Assumes nothing.
 use mathlib.Core.Path.{_≡_, refl, ap, _∙_}
 use mathlib.Core.Logic.{_⊎_, inl, inr, ⊎-elim}
 use Prim.Native.Nat.{ℕ, _≤_, _<_, _-_, _+_}

@@ -1,5 +1,5 @@
--- `lloyd_cells::residual_norm` meets its contract: the part of the work that is handed over has the codeword's
--- coordinates. Assumes nothing.
+-- `lloyd_cells::residual_norm` meets its contract: the part of the work
+-- that is handed over has the codeword's coordinates. Assumes nothing.
 use mathlib.Core.Path.{_≡_, refl, ap, _∙_}
 use Prim.Native.Nat.{ℕ, _+_, _-_, _<_}
 use native.Mathlib.Omega.{arith}

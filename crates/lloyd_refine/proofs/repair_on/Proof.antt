@@ -1,5 +1,5 @@
--- `lloyd_refine::repair_on` meets its contract: a turn of the repairs says where it leaves the refinement. Assumes
--- nothing.
+-- `lloyd_refine::repair_on` meets its contract: a turn of the
+-- repairs says where it leaves the refinement. Assumes nothing.
 use mathlib.Core.Path.{_≡_, sym, ap, subst}
 use mathlib.Core.List.{_++_}
 use borrow.Author.Needs.{needs}

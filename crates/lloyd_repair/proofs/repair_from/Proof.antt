@@ -1,5 +1,5 @@
--- `lloyd_repair::repair_from` meets its contract: what it reads of the donor is what the repairs so far left. Assumes
--- nothing.
+-- `lloyd_repair::repair_from` meets its contract: what it reads
+-- of the donor is what the repairs so far left. Assumes nothing.
 use mathlib.Core.Path.{_≡_, refl, sym, _∙_}
 use Prim.Native.Nat.{ℕ, _+_, _-_, _*_, _^_, _≤_, _<_}
 use native.Mathlib.Omega.{arith}

@@ -1,5 +1,5 @@
--- `lloyd_restart::rotate_words` meets its contract: the codewords passed are rotated, and the rest of the work is as it
--- was. Assumes nothing.
+-- `lloyd_restart::rotate_words` meets its contract: the codewords passed
+-- are rotated, and the rest of the work is as it was. Assumes nothing.
 use mathlib.Core.Path.{_≡_, refl, sym, ap, _∙_}
 use Prim.Native.Nat.{ℕ, _≤_, _-_, _+_, _*_}
 use native.Mathlib.Nat.{zero-mul, mul-le-mul-right}

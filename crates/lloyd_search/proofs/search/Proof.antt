@@ -1,5 +1,5 @@
--- `lloyd_search::search` meets its contract: from what the fours give, the best so far is the first least of the
--- codewords passed. Assumes nothing.
+-- `lloyd_search::search` meets its contract: from what the fours give, the
+-- best so far is the first least of the codewords passed. Assumes nothing.
 use mathlib.Core.Path.{_≡_, refl, sym, ap, _∙_}
 use Prim.Native.Nat.{ℕ, _≤_, _-_, _+_, _*_}
 use native.Mathlib.Nat.{div-mul-le-self}

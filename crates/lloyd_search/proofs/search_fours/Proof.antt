@@ -1,5 +1,5 @@
--- `lloyd_search::search_fours` meets its contract: the best so far is the first least of the codewords passed, four
--- more in each turn. Assumes nothing.
+-- `lloyd_search::search_fours` meets its contract: the best so far is the first
+-- least of the codewords passed, four more in each turn. Assumes nothing.
 use mathlib.Core.Path.{_≡_, refl, ap, _∙_}
 use Prim.Native.Nat.{ℕ, _≤_, _<_, _-_, _+_, _*_, _^_}
 use native.Mathlib.Omega.{arith}

@@ -1,5 +1,5 @@
--- `lloyd_search_f32::distances_of_four_f32` meets its contract: each sum is that of the coordinates passed, widening
--- changes no value. Assumes nothing.
+-- `lloyd_search_f32::distances_of_four_f32` meets its contract: each sum is
+-- that of the coordinates passed, widening changes no value. Assumes nothing.
 use mathlib.Core.Path.{_≡_, refl}
 use Prim.Native.Nat.{_≤_, _-_}
 use native.Mathlib.Omega.{arith}

@@ -1,5 +1,5 @@
--- `lloyd_search_f32::search_four_f32` meets its contract: the best so far of each block is the first least of the
--- codewords passed. Assumes nothing.
+-- `lloyd_search_f32::search_four_f32` meets its contract: the best so far of
+-- each block is the first least of the codewords passed. Assumes nothing.
 use mathlib.Core.Path.{_≡_, refl, sym, _∙_}
 use Prim.Native.Nat.{_≤_, _-_, _+_, _*_}
 use native.Mathlib.Omega.{arith}

@@ -1,5 +1,5 @@
--- `lloyd_search_f32::squared_distance_f32` meets its contract: the sum is that of the coordinates passed, widening
--- changes no value. Assumes nothing.
+-- `lloyd_search_f32::squared_distance_f32` meets its contract: the sum is
+-- that of the coordinates passed, widening changes no value. Assumes nothing.
 use mathlib.Core.Path.{_≡_, refl, ap, _∙_}
 use Prim.Native.Nat.{ℕ, _≤_, _-_}
 use native.Mathlib.Omega.{arith}

@@ -1,5 +1,5 @@
--- `lloyd_steps::advance` meets its contract: whatever stood at the start stands at every turn, and the rounds left
--- fall. Assumes nothing.
+-- `lloyd_steps::advance` meets its contract: whatever stood at the start
+-- stands at every turn, and the rounds left fall. Assumes nothing.
 use mathlib.Core.Path.{_≡_, refl, sym, _∙_}
 use mathlib.Core.Bool.{Bool, true, false, cond, true≢false}
 use mathlib.Core.List.{List}

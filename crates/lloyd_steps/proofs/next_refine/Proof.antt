@@ -1,5 +1,5 @@
--- `lloyd_steps::next_refine` meets its contract: the repairs go on after the one that was made, and the rounds after
--- them. Assumes nothing.
+-- `lloyd_steps::next_refine` meets its contract: the repairs go on after
+-- the one that was made, and the rounds after them. Assumes nothing.
 use mathlib.Core.Path.{refl, _∙_, subst}
 use mathlib.Core.List.{List, _++_}
 use Prim.Native.Nat.{ℕ}

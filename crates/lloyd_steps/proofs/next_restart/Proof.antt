@@ -1,5 +1,5 @@
--- `lloyd_steps::next_restart` meets its contract: the better codebook is kept, and then comes the next restart or the
--- report. Assumes nothing.
+-- `lloyd_steps::next_restart` meets its contract: the better codebook is
+-- kept, and then comes the next restart or the report. Assumes nothing.
 use mathlib.Core.Path.{refl, sym, ap, _∙_, subst}
 use mathlib.Core.Bool.{true, false, true≢false}
 use mathlib.Core.List.{List}

@@ -1,5 +1,5 @@
--- `lloyd_steps::start_refine` meets its contract: the initial codebook stands twice in the work, and the first round
--- begins. Assumes nothing.
+-- `lloyd_steps::start_refine` meets its contract: the initial codebook
+-- stands twice in the work, and the first round begins. Assumes nothing.
 use mathlib.Core.Path.{_≡_, refl, _∙_}
 use mathlib.Core.List.{[]}
 use native.Mathlib.Omega.{arith}

@@ -1,5 +1,5 @@
--- `lloyd_steps::start_round` meets its contract: the means of the round, the policy for empty cells, and the repairs
--- from cell 0 on. Assumes nothing.
+-- `lloyd_steps::start_round` meets its contract: the means of the round, the
+-- policy for empty cells, and the repairs from cell 0 on. Assumes nothing.
 use mathlib.Core.Path.{_≡_, refl, sym, ap, _∙_, subst}
 use mathlib.Core.Logic.{⊎-elim}
 use mathlib.Core.Bool.{false, true≢false}

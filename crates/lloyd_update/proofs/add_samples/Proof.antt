@@ -1,5 +1,5 @@
--- `lloyd_update::add_samples` meets its contract: of every call made with these values, the samples passed are added
--- up. Assumes nothing.
+-- `lloyd_update::add_samples` meets its contract: of every call made
+-- with these values, the samples passed are added up. Assumes nothing.
 use mathlib.Core.Path.{_≡_, refl, sym, ap, _∙_}
 use mathlib.Core.Logic.{⊎-elim}
 use Prim.Native.Nat.{ℕ, _+_, _-_, _*_, _≤_, _<_}

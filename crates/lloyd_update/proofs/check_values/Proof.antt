@@ -1,5 +1,5 @@
--- `lloyd_update::check_values` meets its contract: the two slices of values, and then no assignment passed is out of
--- range. Assumes nothing.
+-- `lloyd_update::check_values` meets its contract: the two slices of
+-- values, and then no assignment passed is out of range. Assumes nothing.
 use mathlib.Core.Path.{_≡_, sym, _∙_}
 use mathlib.Core.Bool.{Bool, false}
 use mathlib.Core.List.{List, [], _∷_}

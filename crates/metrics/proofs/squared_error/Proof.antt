@@ -1,5 +1,5 @@
--- `metrics::squared_error` meets its contract. The loop's invariant: the sum is that of the elements passed. Assumes
--- nothing.
+-- `metrics::squared_error` meets its contract. The loop's invariant:
+-- the sum is that of the elements passed. Assumes nothing.
 use mathlib.Core.Path.{_≡_, refl, ap, _∙_}
 use Prim.Native.Nat.{ℕ, _≤_, _-_}
 use native.Mathlib.Omega.{arith}

@@ -1,5 +1,5 @@
--- `narrow::f64_to_f32` meets its contract: the pattern that `narrowed` gives is that of the rounded value. Assumes
--- nothing.
+-- `narrow::f64_to_f32` meets its contract: the pattern that
+-- `narrowed` gives is that of the rounded value. Assumes nothing.
 use mathlib.Core.Path.{_≡_, sym, ap, _∙_, subst}
 use Prim.Native.Nat.{ℕ, _<_}
 use mathlib.Core.Bool.{Bool, not}

@@ -1,5 +1,5 @@
--- `rotation::rotate_eights` meets its contract. The loop's invariant: the outputs of the rows passed stand. Assumes
--- nothing.
+-- `rotation::rotate_eights` meets its contract. The loop's
+-- invariant: the outputs of the rows passed stand. Assumes nothing.
 use mathlib.Core.Path.{_≡_, refl}
 use Prim.Native.Nat.{_+_, _*_, _≤_, _-_}
 use native.Mathlib.Omega.{arith}

@@ -1,5 +1,5 @@
--- `rotation::rotate_rest` meets its contract. The loop's invariant: the outputs of the rows passed stand. Assumes
--- nothing.
+-- `rotation::rotate_rest` meets its contract. The loop's invariant:
+-- the outputs of the rows passed stand. Assumes nothing.
 use mathlib.Core.Path.{_≡_, refl, ap, _∙_}
 use Prim.Native.Nat.{ℕ, _+_, _*_, _≤_, _-_}
 use native.Mathlib.Nat.{mul-le-mul-right}

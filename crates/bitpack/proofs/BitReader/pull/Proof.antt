@@ -1,5 +1,5 @@
--- `BitReader::pull` meets its contract: the bytes loaded go above the bits that are held, and the value is taken off
--- below them. Assumes nothing.
+-- `BitReader::pull` meets its contract: the bytes loaded go above the bits
+-- that are held, and the value is taken off below them. Assumes nothing.
 use Prim.Native.Nat.{ℕ, _+_, _*_, _-_, _%_, _^_, _≤_, _<_}
 use native.Mathlib.Omega.{arith}
 use lib.ListN.{length, getD}

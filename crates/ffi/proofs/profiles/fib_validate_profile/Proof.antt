@@ -1,5 +1,5 @@
--- `ffi::profiles::fib_validate_profile` meets its contract: the verdict on the profile of the fields crosses. Assumes
--- nothing.
+-- `ffi::profiles::fib_validate_profile` meets its contract: the
+-- verdict on the profile of the fields crosses. Assumes nothing.
 use mathlib.Core.Path.{ap, _∙_}
 use Rattle.ffi_crossing.specs.Crossing.{crossed, none}
 use borrow.Author.Needs.{needs}

@@ -1,5 +1,5 @@
--- `ffi_codes::coding::fib_decode` meets its contract: the answer crosses, and the buffers are the call's. Assumes
--- nothing.
+-- `ffi_codes::coding::fib_decode` meets its contract: the answer
+-- crosses, and the buffers are the call's. Assumes nothing.
 use mathlib.Core.Path.{ap, _∙_}
 use Rattle.ffi_crossing.specs.Crossing.{crossed, none}
 use borrow.Author.Needs.{needs}

@@ -1,5 +1,5 @@
--- `ffi_profile::choices::norm_format_at` meets its contract: each answer follows from the tests on its way. Assumes
--- nothing.
+-- `ffi_profile::choices::norm_format_at` meets its contract: each
+-- answer follows from the tests on its way. Assumes nothing.
 use borrow.Author.Tests.{eq-eqb, ne-eqb}
 use Rattle.ffi_profile.proofs.choices.norm_format_at.Statement.{statement}
 use Rattle.ffi_profile.proofs.choices.norm_format_at.Tie as tie

@@ -1,5 +1,5 @@
--- `profile::FibQuantProfile::block_count` meets its contract: each answer follows from the tests on its way. Assumes
--- nothing.
+-- `profile::FibQuantProfile::block_count` meets its contract:
+-- each answer follows from the tests on its way. Assumes nothing.
 use borrow.Author.Tests.{eq-eqb, ne-eqb}
 use borrow.Author.Needs.{needs}
 use Rattle.profile.proofs.FibQuantProfile.block_count.Statement.{statement}

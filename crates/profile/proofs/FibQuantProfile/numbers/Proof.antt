@@ -1,5 +1,5 @@
--- `profile::FibQuantProfile::numbers` meets its contract: the answers of the checks, put one before another, are the
--- definition's. Assumes nothing.
+-- `profile::FibQuantProfile::numbers` meets its contract: the answers of the
+-- checks, put one before another, are the definition's. Assumes nothing.
 use Rattle.profile.specs.Checks.{numbersOf, ratesOf}
 use borrow.Author.Needs.{needs}
 use Rattle.profile.proofs.FibQuantProfile.numbers.Statement.{statement}

@@ -1,5 +1,5 @@
--- `profile::FibQuantProfile::validate` meets its contract: the answers of the checks, put one before another, are the
--- definition's. Assumes nothing.
+-- `profile::FibQuantProfile::validate` meets its contract: the answers of
+-- the checks, put one before another, are the definition's. Assumes nothing.
 use Rattle.profile.specs.Fields.{profileSchema, rotationAlgorithm, ascii}
 use Rattle.profile.specs.Checks.{validity}
 use borrow.Author.Needs.{needs}

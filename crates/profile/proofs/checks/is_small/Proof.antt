@@ -1,5 +1,5 @@
--- `profile::checks::is_small` meets its contract: a magnitude is within a bound where the value is within it either
--- way. Assumes nothing.
+-- `profile::checks::is_small` meets its contract: a magnitude is within
+-- a bound where the value is within it either way. Assumes nothing.
 use lib.Ieee.{ofBits, round, neg}
 use Rattle.profile.proofs.Rate.{abs-le}
 use Rattle.profile.proofs.checks.is_small.Statement.{statement}

@@ -1,5 +1,5 @@
--- `profile::checks::methods` meets its contract: both methods are compared with those for the block dimension. Assumes
--- nothing.
+-- `profile::checks::methods` meets its contract: both methods are
+-- compared with those for the block dimension. Assumes nothing.
 use borrow.Author.Needs.{needs}
 use Rattle.profile.proofs.checks.methods.Statement.{statement}
 use Rattle.profile.proofs.checks.methods.Tie as tie

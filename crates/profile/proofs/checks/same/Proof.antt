@@ -1,5 +1,5 @@
--- `profile::checks::same` meets its contract: the invariant says that from i on the slices are the same where they are
--- the same as a whole. Assumes nothing.
+-- `profile::checks::same` meets its contract: the invariant says that from i on
+-- the slices are the same where they are the same as a whole. Assumes nothing.
 use borrow.Author.Tests.{eq-eqb, ne-eqb}
 use mathlib.Core.Path.{_≡_, refl, sym, _∙_}
 use Prim.Native.Nat.{_≤_, _-_}
