@@ -124,7 +124,7 @@ module _ (j : Job) (pass : Passed j) (r n : ℕ) (l : r < restartsOf j) (best : 
   unfolding roundsTo
   accepted = answers-list n (λ k. roundRequest j r k (at k)) (λ k. at k .codebook) (λ k. completed (repairsAt j r k)) left-at answer-at
 
-  nearest-words : (i s : ℕ) → i < n → s < countOf j
+  nearest-words : (i s : ℕ) → i ≤ n → s < countOf j
       → let w = getD (roundRequest j r i (at i) .assignments) s 0 in
       Least (toWord j (at i) s) (sizeOf j) (record { index = w; distance = toWord j (at i) s w })
   nearest-words i s m o =
@@ -134,7 +134,7 @@ module _ (j : Job) (pass : Passed j) (r n : ℕ) (l : r < restartsOf j) (best : 
       let x = rowOf k (j .samples) s in
       let p = pass .valid .shape in
       let some = p .book-least in
-      let t = tame i (omega arith) in
+      let t = tame i m in
       let h : Least (toWord j (at i) s) N (nearest k N book x) =
       nearest-least 48 (lit≤ tt) k (p .block-most) N (omega arith) book (rows-bounded 48 N k (at i .codebook) (t .1) (t .0)) x
       (rows-bounded 48 (countOf j) k (j .samples) (samples-within j pass) (pass .samples-length) s o) in

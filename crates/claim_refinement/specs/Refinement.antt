@@ -1,6 +1,6 @@
 -- What demand 3 claims of a refinement: `AnyRefinement`, at the end; proofs/RefinementLaw.antt proves it of every job.
 -- It speaks of `refinement`, `roundOf`, `startOf`, `errorOf` and `slotsAfter`, the definitions for refine's own
--- contract, and of histories as specs/History.antt has them.
+-- contract, and of histories as crate claim_history has them.
 -- Document 01's terms: the start is candidate 0, the end of restart
 -- r is candidate r + 1; the error is measured before narrowing.
 -- Definitions only.
@@ -122,7 +122,7 @@ pub record Rounds (j : Job) (c : Course) (r n : ℕ) : Type 0 where
   -- from the restart's start the updates leave the codebooks of its course
   pub codebooks : (i : ℕ) → i ≤ n → after (requestsTo j c r i) (startOf j r) ≡ c .stand r i .codebook
   -- the assignment of a sample is the first codeword that none is strictly nearer than
-  pub nearest-words : (i s : ℕ) → i < n → s < countOf j
+  pub nearest-words : (i s : ℕ) → i ≤ n → s < countOf j
       → let w = getD (roundRequest j r i (c .stand r i) .assignments) s 0 in
       Least (toWord j (c .stand r i) s) (sizeOf j) (record { index = w; distance = toWord j (c .stand r i) s w })
   -- each is accepted, with the repairs of its round

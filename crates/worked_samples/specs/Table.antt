@@ -1,6 +1,7 @@
 -- Document 01's starred samples: what the definitions give,
 -- beside what the paper says; and a witness of a default profile.
--- What is stated is written out as values, so that no definition of the library stands on both sides. Definitions only.
+-- What is stated is written out as values, so that no definition of the library
+-- stands on both sides (`numbers` only lists whole numbers). Definitions only.
 use mathlib.Core.Path.{_≡_}
 use Prim.Native.Nat.{ℕ}
 use mathlib.Core.Bool.{true, false}
