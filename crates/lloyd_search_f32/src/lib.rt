@@ -1,4 +1,4 @@
-// The search over codewords of finite binary32 values, each widened as it is: what the encoder asks for.
+// The search over codewords of finite binary32 values, widened to binary64: what the encoder asks for.
 ghost use mathlib.Core.Path.{_≡_};
 ghost use Prim.Native.Nat.{_<_, _≤_, _*_, _^_};
 ghost use lib.ListN.{length};
