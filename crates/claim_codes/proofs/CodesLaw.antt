@@ -21,10 +21,10 @@ use Rattle.lloyd_search.proofs.LimitLaw.{all-within, passed-bounded}
 use Rattle.lloyd_search.proofs.FiniteLaw.{finite-distance}
 use Rattle.slices.proofs.FirstLaw.{all-finite}
 use Rattle.norm.proofs.NormLaw.{norm-written}
-use Rattle.decode.specs.Decode.{values, matrixLimit}
+use Rattle.decode.specs.Decode.{values, matrixLimit, indicesOf}
 use Rattle.encode.specs.Encode.{EncodeCall, normOf, searched, encoding}
 use Rattle.encode.proofs.EncodeLaw.{getD-indices}
-use Rattle.claim_codes.specs.Codes.{blockOf, distanceTo, FirstNearest, indicesIn, EncodedBlock, EncodedBlocks, RoundTrip}
+use Rattle.claim_codes.specs.Codes.{blockOf, distanceTo, FirstNearest, EncodedBlock, EncodedBlocks, RoundTrip}
 use Rattle.claim_codes.proofs.FrameLaw.{Encoded, encoded, parts, headed, indices-are, round-trip-of}
 use Rattle.claim_codes.proofs.SearchedLaw.{block-upto}
 use Rattle.claim_codes.proofs.LeastLaw.{least-found, distance-real}
@@ -93,12 +93,12 @@ module _ (c : EncodeCall) (frame : List ℕ) where
           let r = least-found (distanceTo c i) n (omega arith) distances-real in
           subst (λ (x : Float). Least (distanceTo c i) n (record { index = nearest k n (rowOf k (c .codewords)) (blockOf c i) .index; distance = x })) (r .is) r
 
-      index-is : getD (indicesIn (parts c frame q)) i 0 ≡ nearest k n (rowOf k (c .codewords)) (blockOf c i) .index
+      index-is : getD (indicesOf (parts c frame q)) i 0 ≡ nearest k n (rowOf k (c .codewords)) (blockOf c i) .index
       index-is =
           ap (λ (xs : List ℕ). getD xs i 0) (indices-are c frame q)
           ∙ getD-indices (d / k) k n (c .codewords) (searched d (c .matrix) (c .input) (normOf (c .input))) i l
 
-      block-encoded : EncodedBlock c i (getD (indicesIn (parts c frame q)) i 0)
+      block-encoded : EncodedBlock c i (getD (indicesOf (parts c frame q)) i 0)
       block-encoded = record {
         chosen = subst (FirstNearest (distanceTo c i) n) (sym index-is) found;
         block-finite = block-real;

@@ -1,7 +1,7 @@
 -- What demand 3 claims of codes: `EncodedBlocks`; and that decoding gets back what was
 -- encoded: `RoundTrip`. proofs/CodesLaw.antt proves both of every frame that `encoding`,
 -- the definition of encode's own contract, is completed with. Definitions only.
--- They speak of the frame's bytes: `parsed` and `unpackedIndices` are those of the published layout. d is the ambient
+-- They speak of the frame's bytes: `parsed` and `indicesOf` read the published layout. d is the ambient
 -- dimension, k the block dimension, n the codebook size.
 use mathlib.Core.Path.{_≡_}
 use Prim.Native.Nat.{ℕ, _*_, _/_, _<_}
@@ -13,13 +13,12 @@ use lib.Ieee.Scale.{finite}
 use Rattle.error.specs.Numbers.{completed}
 use Rattle.ieee.specs.Bounds.{NotNegative}
 use Rattle.narrow.specs.Format.{unpacked}
-use Rattle.bitpack.specs.Layout.{unpackedIndices}
 use Rattle.compact.specs.Frame.{Parts, parsed, bytesOf}
 use Rattle.profile.specs.declared.FibQuantProfile.{FibQuantProfile}
 use Rattle.lloyd_search.specs.Distance.{rowOf, distance}
 use Rattle.lloyd_search.specs.Nearest.{Least}
 use Rattle.norm.specs.Norm.{normBits}
-use Rattle.decode.specs.Decode.{DecodeCall, decoded, onlyFinite, decodable, decoding}
+use Rattle.decode.specs.Decode.{DecodeCall, decoded, onlyFinite, decodable, decoding, indicesOf}
 use Rattle.encode.specs.Encode.{EncodeCall, normOf, searched, indicesFor}
 
 -- ---- a block, and its codeword
@@ -36,10 +35,6 @@ distanceTo c i m = distance (c .profile .«block_dim») (blockOf c i) (rowOf (c 
 -- an index below n, none strictly nearer than it, and each earlier one strictly farther
 abbrev pub FirstNearest : (ℕ → Float) → ℕ → ℕ → Type 0
 FirstNearest distances n index = Least distances n (record { index = index; distance = distances index })
-
--- the indices that a frame holds
-abbrev pub indicesIn : Parts → List ℕ
-indicesIn parts = unpackedIndices (parts .indices) (parts .count) (parts .width)
 
 -- ---- what is claimed
 -- the frame's bytes parse, with the profile's width and a block for each k values
@@ -63,7 +58,7 @@ pub record EncodedBlocks (c : EncodeCall) (frame : List ℕ) : Type 0 where
   pub parts : Parts
   pub headed : Headed (c .profile) frame parts
   pub blocks : (i : ℕ) → i < c .profile .«ambient_dim» / c .profile .«block_dim»
-      → EncodedBlock c i (getD (indicesIn parts) i 0)
+      → EncodedBlock c i (getD (indicesOf parts) i 0)
 
 -- decoding a frame with the call's own profile, strings, matrix and codewords, for d values and 2 * d of float work
 abbrev pub decodingOf : EncodeCall → List ℕ → DecodeCall
@@ -88,7 +83,7 @@ pub record RoundTrip (c : EncodeCall) (frame : List ℕ) : Type 0 where
   pub bits-are : normBits (normOf (c .input)) ≡ completed bits
   pub norm-is : parts .norm ≡ bytesOf 2 bits
   -- the indices in the frame are those that encode chose
-  pub indices-are : indicesIn parts
+  pub indices-are : indicesOf parts
       ≡ indicesFor (c .profile .«ambient_dim» / c .profile .«block_dim») (c .profile .«block_dim»)
       (c .profile .«codebook_size») (c .codewords)
       (searched (c .profile .«ambient_dim») (c .matrix) (c .input) (normOf (c .input)))
@@ -97,4 +92,4 @@ pub record RoundTrip (c : EncodeCall) (frame : List ℕ) : Type 0 where
   -- so the answer is the values of the codewords that were chosen and of that norm, or 12
   pub values-back : decoding (decodingOf c frame)
       ≡ onlyFinite (decoded (c .profile .«ambient_dim») (c .profile .«block_dim») (c .matrix) (c .codewords)
-      (indicesIn parts) (unpacked 11 15 bits))
+      (indicesOf parts) (unpacked 11 15 bits))

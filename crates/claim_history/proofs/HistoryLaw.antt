@@ -20,9 +20,10 @@ use Rattle.lloyd_cells.specs.Update.{means, farthestSample, failsClosed, emptyC
 use Rattle.lloyd_cells.proofs.CellsLaw.{total-count}
 use Rattle.lloyd_cells.proofs.TallyLaw.{donor-found}
 use Rattle.lloyd_update.specs.Alone.{Call, updateChecks, termsOf, updateOf, updateAlone, codebookAfter, slotsAfter}
+use Rattle.lloyd_update.proofs.RepairsLaw.{events-within}
 use Rattle.claim_history.specs.History.{Request, callWith, after, answers, isCompleted, completions, accepted, sampleCount, assignedTally, tallyAfter, Sound, Balanced, Tallies, AcceptedCall, RefusedCall, Link, Chain, History}
 use Rattle.claim_history.proofs.ChecksLaw.{one-for-each, all-cells, checks-not-15}
-use Rattle.claim_history.proofs.TalliesLaw.{counted, follows, balanced, events-fit}
+use Rattle.claim_history.proofs.TalliesLaw.{counted, follows, balanced}
 
 take-front : {A : Type 0} (xs ys : List A) → take (length xs) (xs ++ ys) ≡ xs
 take-front [] ys = refl
@@ -67,7 +68,7 @@ module _ (c : Call) where
           let h = repairs-completed r done in
           let s : Sound (assignedTally (c .assignments)) (r .events) = rw start-is at (follows (termsOf c) far start (c .size) r h .0) in
           let b : Balanced (sampleCount c) (c .size) (tallyAfter (assignedTally (c .assignments)) (r .events)) = rw start-is at (balanced (termsOf c) far start (sampleCount c) r start-all h) in
-          record { reported = l; free = events-fit (termsOf c) far start (c .size) r h; sound = rw e s; counted = rw e (counted (assignedTally (c .assignments)) (r .events) s); balanced = rw e b }
+          record { reported = l; free = events-within (termsOf c) far start (c .size) r h; sound = rw e s; counted = rw e (counted (assignedTally (c .assignments)) (r .events) s); balanced = rw e b }
 
       slots-are : (slots : List LloydRepairEvent) → slotsAfter c slots ≡ r .events ++ drop (length (r .events)) slots
       slots-are slots = rw (pass, done)

@@ -9,17 +9,14 @@ use native.Mathlib.Omega.{arith}
 use native.Mathlib.Decide.{ℕ-discrete}
 use mathlib.Core.Bool.{Bool, true, false, _||_, cond}
 use mathlib.Core.List.{List, [], _∷_, _++_}
-use lib.Dec.{eqb, leb}
-use lib.ListN.{length, length-append}
-use lib.Ieee.{Float, le}
-use borrow.Author.Tests.{eq-eqb, ne-eqb, leb-false}
-use Rattle.error.specs.Numbers.{completed, refused, whole}
+use lib.Dec.{eqb}
+use lib.Ieee.{Float}
+use borrow.Author.Tests.{eq-eqb, ne-eqb}
+use Rattle.error.specs.Numbers.{completed}
 use Rattle.error.proofs.Outcomes.{then-completed}
-use Rattle.slices.specs.declared.First.{First}
-use Rattle.slices.specs.declared.First.the-variants.{Nowhere, At}
 use Rattle.lloyd_events.specs.declared.LloydRepairEvent.{LloydRepairEvent}
 use Rattle.lloyd_cells.specs.Cells.{total}
-use Rattle.lloyd_cells.specs.Repair.{Cells, Terms, Repaired, leastNorm, residualNorm, eventOf, donorTo, repairBy, turn, repairTo}
+use Rattle.lloyd_cells.specs.Repair.{Cells, Terms, Repaired, residualNorm, eventOf, turn, repairTo}
 use Rattle.lloyd_cells.proofs.CellsLaw.{total-ext}
 use Rattle.lloyd_cells.proofs.DonorLaw.{donor-plenty}
 use Rattle.lloyd_cells.proofs.TallyLaw.{splitBy, turn-completed, tallied, tallied-some, total-share}
@@ -124,31 +121,3 @@ pub balanced : (t : Terms) (far : ℕ → ℕ → Float) (st : Cells) (S : ℕ) 
 balanced t far st S r e h =
     let g = tallied t far st (t .cells) r (le-refl (t .cells)) h in
     balanced-of S (t .cells) (r .cells .tally) (tallyAfter (st .tally) (r .events)) (follows t far st (t .cells) r h .1) (tallied-some g) (g .all ∙ e)
-
--- ---- an event for a slot that is still free
-module _ (t : Terms) (far : ℕ → ℕ → Float) where
-  turn-fits : (e : ℕ) (r s : Repaired) → length (r .events) ≤ t .free → turn t far e r ≡ completed s → length (s .events) ≤ t .free
-  turn-fits e r s l h = go (eqb (r .cells .tally e) 0) h
-    where
-      by : (d : First) → repairBy t far e r d ≡ completed s → length (s .events) ≤ t .free
-      by Nowhere k = let z : _≡_ {A = ℕ} 0 1 = cc in absurd (omega arith)
-      by (At c) k = tests (le (residualNorm (t .dim) (far c) (r .cells .word c)) leastNorm) (leb (t .free) (length (r .events))) refl k
-        where
-          tests : (a b : Bool) → leb (t .free) (length (r .events)) ≡ b → cond a (refused 16 (whole c ∷ [])) (cond b (refused 19 (whole (t .shown) ∷ [])) (completed (splitBy t far e r c))) ≡ completed s → length (s .events) ≤ t .free
-          tests true b q k = let z : _≡_ {A = ℕ} 0 1 = cc in absurd (omega arith)
-          tests false true q k = let z : _≡_ {A = ℕ} 0 1 = cc in absurd (omega arith)
-          tests false false q k =
-              let free = leb-false (t .free) (length (r .events)) q in
-              let is : splitBy t far e r c ≡ s = cc in
-              subst (λ (x : Repaired). length (x .events) ≤ t .free) is (rw (length-append (r .events) (eventOf t (r .cells) c e (residualNorm (t .dim) (far c) (r .cells .word c)) ∷ [])) (omega arith))
-
-      go : (b : Bool) → cond b (repairBy t far e r (donorTo (r .cells .tally) (r .cells .distortion) (t .cells))) (completed r) ≡ completed s → length (s .events) ≤ t .free
-      go true k = by (donorTo (r .cells .tally) (r .cells .distortion) (t .cells)) k
-      go false k = let is : r ≡ s = cc in subst (λ (x : Repaired). length (x .events) ≤ t .free) is l
-
-  pub events-fit : (st : Cells) (e : ℕ) (r : Repaired) → repairTo t far st e ≡ completed r → length (r .events) ≤ t .free
-  unfolding repairTo
-  events-fit st zero r h = let q : record { cells = st; events = [] } ≡ r = cc in subst (λ (x : Repaired). length (x .events) ≤ t .free) q (omega arith)
-  events-fit st (suc e) r h =
-      let (x, p, q) = then-completed (repairTo t far st e) (turn t far e) r h in
-      turn-fits e x r (events-fit st e x p) q

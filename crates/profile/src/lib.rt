@@ -1,5 +1,5 @@
 // The profile of a quantiser, its limits and its checks: module profile.rs of
-// fib-quant, without digest and message texts. specs/Valid.antt has the order, the
+// fib-quant, without digest and message texts. specs/Checks.antt has the order, the
 // numbers and the values of the checks. log2 of the codebook size is handed in.
 // Public only for the checks of a refinement and of a report.
 pub mod checks;
