@@ -17,7 +17,7 @@ use Rattle.profile.specs.declared.DirectionMethod.{DirectionMethod}
 use Rattle.profile.specs.declared.FibQuantProfile.{FibQuantProfile}
 use Rattle.profile.specs.Fields.{profileSchema, rotationAlgorithm, sameBytes, isFp16, isCanonical, radiusFor, directionFor, sameRadius, sameDirection, indexWidth, rateAgrees}
 use Rattle.profile.specs.Checks.{named, shapeOf, sizesOf, formatsOf, widthOf, rateOf, ratesOf, methodsOf, settingsOf, numbersOf, perCoord, validity}
-use Rattle.lloyd_refine.specs.Refine.{Job, sizeOf, dimOf, countOf, restartsOf, refineLimit, lengthChecks, valueChecks, refineChecks}
+use Rattle.lloyd_refine.specs.Refine.{Job, sizeOf, dimOf, countOf, restartsOf, refineLimit, roomOf, lengthChecks, valueChecks, refineChecks}
 use Rattle.claim_history.proofs.ChecksLaw.{Never, never-done, never-cond, never-bounded}
 
 never-also : (o q : Outcome Unit) → Never o → Never q → Never (also o q)
@@ -84,15 +84,15 @@ never-validity p schema algorithm log2 =
     (never-settings (p .«lloyd_restarts») (p .«lloyd_iterations») (p .«training_samples») n))))))))
 
 module _ (j : Job) where
-  never-lengths : Never (lengthChecks j)
+  never-lengths : Never (lengthChecks (roomOf j) j)
   unfolding lengthChecks
   never-lengths =
       never-cond (not (eqb (length (j .initial)) (sizeOf j * dimOf j))) 7 _ _ tt
       (never-cond (not (eqb (length (j .samples)) (countOf j * dimOf j))) 7 _ _ tt
       (never-cond (not (eqb (length (j .matrices)) ((restartsOf j - 1) * (dimOf j * dimOf j)))) 7 _ _ tt
       (never-cond (not (eqb (j .codewords) (sizeOf j * dimOf j))) 7 _ _ tt
-      (never-cond (not (eqb (j .floatWork) (4 * (sizeOf j * dimOf j) + 2 * sizeOf j))) 7 _ _ tt
-      (never-cond (not (eqb (j .integerWork) (sizeOf j + countOf j))) 7 _ _ tt
+      (never-cond (not (eqb (j .floatWork) (roomOf j .floats))) 7 _ _ tt
+      (never-cond (not (eqb (j .integerWork) (roomOf j .integers))) 7 _ _ tt
       (never-cond (not (leb (j .slots) 1048576)) 7 _ _ tt
       (never-done tt)))))))
 
@@ -102,4 +102,4 @@ module _ (j : Job) where
 
   pub checks-not-15 : (vs : List Value) → refineChecks j ≡ refused 15 vs → ⊥
   unfolding refineChecks
-  checks-not-15 = never-also (validity (j .profile) (j .schema) (j .algorithm) (j .log2)) _ (never-validity (j .profile) (j .schema) (j .algorithm) (j .log2)) (never-also (lengthChecks j) (valueChecks j) never-lengths never-values)
+  checks-not-15 = never-also (validity (j .profile) (j .schema) (j .algorithm) (j .log2)) _ (never-validity (j .profile) (j .schema) (j .algorithm) (j .log2)) (never-also (lengthChecks (roomOf j) j) (valueChecks j) never-lengths never-values)

@@ -59,16 +59,26 @@ iterationsOf j = j .profile .«lloyd_iterations»
 abbrev pub refineLimit : Float
 refineLimit = fin false 1 (pos 20)
 
-unfoldable pub lengthChecks : Job → Outcome Unit
-lengthChecks j =
+-- how long the lent work is: slices 7 and 8
+pub record Room : Type 0 where
+  pub floats : ℕ
+  pub integers : ℕ
+
+-- floats for the round's codebook, the best one, the words of the update, and a distortion and a farthest distance
+-- for each cell; integers for a count and the number of a farthest sample for each
+abbrev pub roomOf : Job → Room
+roomOf j = record { floats = 3 * (sizeOf j * dimOf j) + 2 * sizeOf j; integers = 2 * sizeOf j }
+
+unfoldable pub lengthChecks : Room → Job → Outcome Unit
+lengthChecks room j =
     let n = sizeOf j in
     let k = dimOf j in
     cond (not (eqb (length (j .initial)) (n * k))) (refused 7 (whole initialSlice ∷ []))
     (cond (not (eqb (length (j .samples)) (countOf j * k))) (refused 7 (whole samplesSlice ∷ []))
     (cond (not (eqb (length (j .matrices)) ((restartsOf j - 1) * (k * k)))) (refused 7 (whole matrixSlice ∷ []))
     (cond (not (eqb (j .codewords) (n * k))) (refused 7 (whole codewordsSlice ∷ []))
-    (cond (not (eqb (j .floatWork) (4 * (n * k) + 2 * n))) (refused 7 (whole floatWorkSlice ∷ []))
-    (cond (not (eqb (j .integerWork) (n + countOf j))) (refused 7 (whole integerWorkSlice ∷ []))
+    (cond (not (eqb (j .floatWork) (room .floats))) (refused 7 (whole floatWorkSlice ∷ []))
+    (cond (not (eqb (j .integerWork) (room .integers))) (refused 7 (whole integerWorkSlice ∷ []))
     (cond (not (leb (j .slots) 1048576)) (refused 7 (whole eventSlice ∷ []))
     (completed tt)))))))
 
@@ -81,7 +91,9 @@ valueChecks j =
     (completed tt)))
 
 unfoldable pub refineChecks : Job → Outcome Unit
-refineChecks j = also (validity (j .profile) (j .schema) (j .algorithm) (j .log2)) (also (lengthChecks j) (valueChecks j))
+refineChecks j =
+    also (validity (j .profile) (j .schema) (j .algorithm) (j .log2))
+    (also (lengthChecks (roomOf j) j) (valueChecks j))
 
 -- ---- the rounds of a restart
 

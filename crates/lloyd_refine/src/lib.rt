@@ -19,7 +19,7 @@ ghost use Rattle.lloyd_search.specs.Nearest.{meanError};
 ghost use Rattle.lloyd_events.specs.declared.LloydRepairEvent.{LloydRepairEvent};
 ghost use Rattle.lloyd_events.specs.Events.{zeroEvent};
 ghost use Rattle.lloyd_cells.specs.Repair.{Repaired};
-ghost use Rattle.lloyd_refine.specs.Refine.{Job, Best, Trained, refineLimit, lengthChecks, refineChecks};
+ghost use Rattle.lloyd_refine.specs.Refine.{Job, Best, Trained, refineLimit, roomOf, lengthChecks, refineChecks};
 ghost use Rattle.lloyd_refine.specs.Report.{sameSettings, reportTest};
 ghost use Rattle.lloyd_refine.specs.Standing.{jobOf, InRound, Matches};
 ghost use Rattle.lloyd_refine.specs.Pauses.{isReport, reportIn, withBest, Paused, Pausing, ReadyIn};
@@ -99,9 +99,9 @@ fn check_lengths(
     slots: usize,
 ) -> Checked
     requires { ⌜ Valid profile ⌝ }
-    ensures { λ r. ⌜ checked r
-        ≡ lengthChecks (jobOf profile [] [] nan (now (initial .entry)) (now (samples .entry))
-        (now (matrices .entry)) codewords floats integers slots) ⌝ }
+    ensures { λ r. ⌜ (let j = jobOf profile [] [] nan (now (initial .entry)) (now (samples .entry))
+        (now (matrices .entry)) codewords floats integers slots in
+        checked r ≡ lengthChecks (roomOf j) j) ⌝ }
 {
     let n = profile.codebook_size as usize;
     let k = profile.block_dim as usize;
@@ -119,10 +119,10 @@ fn check_lengths(
     if codewords != n * k {
         return Checked::Refused(Refusal::SliceLength(names::CODEWORDS_SLICE));
     }
-    if floats != 4 * (n * k) + 2 * n {
+    if floats != 3 * (n * k) + 2 * n {
         return Checked::Refused(Refusal::SliceLength(names::FLOAT_WORK_SLICE));
     }
-    if integers != n + count {
+    if integers != 2 * n {
         return Checked::Refused(Refusal::SliceLength(names::INTEGER_WORK_SLICE));
     }
     if lloyd_events::MAX_EVENT_SLOTS < slots {

@@ -25,7 +25,7 @@ use Rattle.lloyd_round.specs.Round.{cellOf, placesOf, Roomy}
 use Rattle.lloyd_round.specs.Adding.{front, joins, joinWork, joinInts, Addable, distanceOf, Added}
 
 -- the parts of the work
-pub shape : (n k L : ℕ) → 0 < k → L ≡ 4 * (n * k) + 2 * n → Fit (placesOf n k) n k L
+pub shape : (n k L : ℕ) → 0 < k → L ≡ 3 * (n * k) + 2 * n → Fit (placesOf n k) n k L
 shape n k L h e = record { some = h; words = omega arith; distortions = omega arith; farthest = omega arith }
 
 -- its places are small numbers

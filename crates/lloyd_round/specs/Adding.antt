@@ -45,7 +45,7 @@ pub record Addable (n k s : ℕ) (work : List Float) (ints : List ℕ) : Type 0 
   pub any : 0 < n
   pub most : n ≤ 1048576
   pub few : s < 10000000
-  pub floats : length work ≡ 4 * (n * k) + 2 * n
+  pub floats : length work ≡ 3 * (n * k) + 2 * n
   pub integers : n + n ≤ length ints
   pub counts : (c : ℕ) → c < n → getD ints c 0 ≤ s
 

@@ -33,12 +33,12 @@ module _ (k n S : ℕ) (samples codebook : List Float) where
   farOf = farthestSample k S (rowOf k samples) cellOf (rowOf k codebook)
 
 -- ---- the work of a refinement
--- Floats: the codebook of the round, the best codebook so far, the words of
--- the update, distortions, farthest distances. What is left stays unused.
+-- Floats: the codebook of the round, the best codebook so far,
+-- the words of the update, distortions, farthest distances.
 abbrev pub placesOf : ℕ → ℕ → Places
 placesOf n k = placesAt (2 * (n * k)) (3 * (n * k)) n
 
--- Integers: the counts, then the numbers of the farthest samples. What is left stays unused.
+-- Integers: the counts, then the numbers of the farthest samples.
 abbrev pub numbersOf : ℕ → Numbers
 numbersOf n = record { start = n; «in_floats» = false }
 
@@ -55,7 +55,7 @@ pub record Roomy (n k S : ℕ) (samples work : List Float) (ints : List ℕ) : T
   pub most : n ≤ 1048576
   pub rows : length samples ≡ S * k
   pub few : S ≤ 10000000
-  pub floats : length work ≡ 4 * (n * k) + 2 * n
+  pub floats : length work ≡ 3 * (n * k) + 2 * n
   pub integers : n + n ≤ length ints
 
 -- before the first repair of a round over that codebook

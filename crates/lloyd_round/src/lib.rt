@@ -42,7 +42,7 @@ fn fill(work: &mut [f64], at: usize, count: usize, x: f64)
 
 // Nothing is added up yet: zeros, and farthest distances below every distance.
 fn clear(work: &mut [f64], ints: &mut [u32], n: usize, k: usize)
-    requires { ⌜ (0 < k) × (length (now work) ≡ 4 * (n * k) + 2 * n) × (n + n ≤ length (now ints)) ⌝ }
+    requires { ⌜ (0 < k) × (length (now work) ≡ 3 * (n * k) + 2 * n) × (n + n ≤ length (now ints)) ⌝ }
     ensures work { λ r. ⌜ now (work .exit)
         ≡ patched (patched (now (work .entry)) (2 * (n * k)) (n * k + n) (λ i. plusZero)) (3 * (n * k) + n) n
         (λ i. fin true 1 (pos 0)) ⌝ }

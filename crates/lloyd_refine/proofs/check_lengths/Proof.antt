@@ -94,8 +94,8 @@ returns-5 : tie.Need-returns-5
 unfolding lengthChecks
 returns-5 c = rw (eq-eqb _ _ (c .before .before .before .before .if1 .left), eq-eqb _ _ (c .before .before .before .if2 .left), eq-eqb _ _ (c .before .before .if3 .left), eq-eqb _ _ (c .before .if4 .left), ne-eqb _ _ (c .if5 .taken))
 
-add-if6 : tie.Need-add-if6
-add-if6 c = record { fits = omega (arith, small (c .before .before .before .before .before .before .before .before .before)) }
+mul-if6 : tie.Need-mul-if6
+mul-if6 c = record { fits = omega (arith, small (c .before .before .before .before .before .before .before .before .before)) }
 
 returns-6 : tie.Need-returns-6
 unfolding lengthChecks
@@ -132,7 +132,7 @@ check-lengths-spec =
     mul-if5-3
     add-if5
     returns-5
-    add-if6
+    mul-if6
     returns-6
     returns-7
     returns-8)

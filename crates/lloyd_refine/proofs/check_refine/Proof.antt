@@ -5,7 +5,7 @@ use borrow.Author.Needs.{needs}
 use Rattle.error.specs.Numbers.{completed, checked}
 use Rattle.profile.specs.Checks.{validity}
 use Rattle.profile.proofs.Facts as profile-facts
-use Rattle.lloyd_refine.specs.Refine.{Job, lengthChecks}
+use Rattle.lloyd_refine.specs.Refine.{Job, roomOf, lengthChecks}
 use Rattle.lloyd_refine.specs.Standing.{jobOf}
 use Rattle.lloyd_refine.proofs.CheckLaw.{valuesOf, invalid, wrong-length, wrong-initial, wrong-samples, matrices-left}
 use Rattle.lloyd_refine.proofs.check_refine.Statement.{statement}
@@ -24,7 +24,7 @@ first-job c = job-of (c .before .before .before .before .before .before .before 
 valid : (c : tie.After-enum-told) → let j = first-job c in validity (j .profile) (j .schema) (j .algorithm) (j .log2) ≡ completed tt
 valid c = sym (c .before .before .validate .ensures) ∙ ap checked (c .enum-told .given .1)
 
-sized : (c : tie.After-enum-told2) → lengthChecks (first-job (c .before .before .before)) ≡ completed tt
+sized : (c : tie.After-enum-told2) → let j = first-job (c .before .before .before) in lengthChecks (roomOf j) j ≡ completed tt
 unfolding lengthChecks
 sized c = sym (c .before .before .check-lengths .ensures) ∙ ap checked (c .enum-told2 .given .1)
 
