@@ -1,19 +1,20 @@
 -- `EitherRoom` holds of every job: only the checks look at the lengths of the work. Assumes nothing.
 use mathlib.Core.Path.{_≡_, refl, sym, ap, _∙_}
 use mathlib.Core.Logic.{_⊎_, inl, inr}
-use Prim.Native.Nat.{ℕ, zero, suc, _+_, _-_, _*_}
+use Prim.Native.Nat.{ℕ, zero, suc, _-_, _*_}
 use mathlib.Core.Bool.{Bool, true, false, not, cond, true≢false}
 use mathlib.Core.List.{List, [], _∷_, _++_}
 use lib.Dec.{eqb, leb}
 use lib.ListN.{length, replicate, drop}
 use lib.Ieee.{Float}
-use borrow.Author.Tests.{eq-eqb}
+use borrow.Author.Tests.{not-false, eq-eqb, eqb-true}
 use Rattle.error.specs.Numbers.{Outcome, completed, refused, andThen, also, whole, leaves}
 use Rattle.profile.specs.Checks.{validity}
 use Rattle.lloyd_events.specs.declared.LloydRepairEvent.{LloydRepairEvent}
 use Rattle.lloyd_events.specs.Events.{zeroEvent}
 use Rattle.lloyd_refine.specs.Refine.{Job, sizeOf, dimOf, countOf, restartsOf, iterationsOf, Room, roomOf, lengthChecks, valueChecks, refineChecks, Trained, roundOn, roundsTo, Best, afterRestart, trainedFrom, restartOn, restartsTo, refineOf, narrowed}
 use Rattle.lloyd_refine.specs.Report.{reportOf}
+use Rattle.lloyd_refine.proofs.CheckLaw.{checks-passed}
 use Rattle.claim_room.specs.Room.{earlierRoom, lent, Seen, seen, seenIn, seenEarlier, seenRefused, EitherRoom}
 
 -- ---- the refinement itself
@@ -36,11 +37,11 @@ module _ (room : Room) (j : Job) where
 data Decided (floats integers : Bool) (fit o : Outcome Unit) : Type 0 where
   as-fit : o ≡ fit → Decided floats integers fit o
   by-floats : floats ≡ true → o ≡ refused 7 (whole 7 ∷ []) → Decided floats integers fit o
-  by-integers : integers ≡ true → o ≡ refused 7 (whole 8 ∷ []) → Decided floats integers fit o
+  by-integers : floats ≡ false → integers ≡ true → o ≡ refused 7 (whole 8 ∷ []) → Decided floats integers fit o
 
 work-first : (floats integers : Bool) (rest : Outcome Unit) → Decided floats integers rest (cond floats (refused 7 (whole 7 ∷ [])) (cond integers (refused 7 (whole 8 ∷ [])) rest))
 work-first true integers rest = by-floats refl refl
-work-first false true rest = by-integers refl refl
+work-first false true rest = by-integers refl refl refl
 work-first false false rest = as-fit refl
 
 module _ {floats integers : Bool} {fit o : Outcome Unit} where
@@ -57,13 +58,16 @@ module _ {floats integers : Bool} {fit o : Outcome Unit} where
   before-check : (c : Outcome Unit) → Decided floats integers fit o → Decided floats integers (also fit c) (also o c)
   before-check c (as-fit e) = as-fit (ap (λ (q : Outcome Unit). also q c) e)
   before-check c (by-floats f e) = by-floats f (ap (λ (q : Outcome Unit). also q c) e)
-  before-check c (by-integers i e) = by-integers i (ap (λ (q : Outcome Unit). also q c) e)
+  before-check c (by-integers f i e) = by-integers f i (ap (λ (q : Outcome Unit). also q c) e)
 
 abbrev other : ℕ → ℕ → Bool
 other have want = not (eqb have want)
 
 own-length : (n : ℕ) → other n n ≡ false
 own-length n = ap not (eq-eqb n n refl)
+
+is-own : (have want : ℕ) → other have want ≡ false → have ≡ want
+is-own have want o = eqb-true have want (not-false _ o)
 
 not-own : (have want : ℕ) → other have want ≡ true → have ≡ want → ⊥
 not-own have want o e = true≢false (sym o ∙ ap not (eq-eqb have want e))
@@ -125,16 +129,17 @@ module _ (j : Job) (codewords : List Float) (slots : List LloydRepairEvent) wher
   any : Decided (other (had .floats) (roomOf j .floats)) (other (had .integers) (roomOf j .integers)) (checksBy j false false) (checksBy j (other (had .floats) (roomOf j .floats)) (other (had .integers) (roomOf j .integers)))
       → (seen j codewords slots ≡ seenEarlier j codewords slots)
       ⊎ (((j .floatWork ≡ roomOf j .floats → ⊥) × (seen j codewords slots ≡ seenRefused 7 codewords slots))
-      ⊎ ((j .integerWork ≡ roomOf j .integers → ⊥) × (seen j codewords slots ≡ seenRefused 8 codewords slots)))
+      ⊎ ((j .floatWork ≡ roomOf j .floats) × (j .integerWork ≡ roomOf j .integers → ⊥) × (seen j codewords slots ≡ seenRefused 8 codewords slots)))
   any (as-fit e) = inl (by-checks (checksBy j false false) e ∙ sym (in-own-room (earlierRoom j)))
   any (by-floats f e) = inr (inl (not-own (had .floats) (roomOf j .floats) f, by-checks (refused 7 (whole 7 ∷ [])) e))
-  any (by-integers i e) = inr (inr (not-own (had .integers) (roomOf j .integers) i, by-checks (refused 7 (whole 8 ∷ [])) e))
+  any (by-integers f i e) = inr (inr (is-own (had .floats) (roomOf j .floats) f, not-own (had .integers) (roomOf j .integers) i, by-checks (refused 7 (whole 8 ∷ [])) e))
 
 pub either-room : (j : Job) (codewords : List Float) (slots : List LloydRepairEvent) → EitherRoom j codewords slots
 either-room j codewords slots =
     let now = in-own-room j codewords slots (roomOf j) in
     let earlier = in-own-room j codewords slots (earlierRoom j) in
     record {
+      exact = λ e. let p = checks-passed j e in (p .floats, p .integers);
       contract = contracted j codewords slots;
       same = contracted (lent (roomOf j) j) codewords slots ∙ now ∙ sym earlier;
       any-lengths = any j codewords slots (decided j (other (j .floatWork) (roomOf j .floats)) (other (j .integerWork) (roomOf j .integers)));

@@ -7,12 +7,11 @@ use mathlib.Core.List.{List, [], _∷_, _++_}
 use lib.ListN.{length, replicate, drop}
 use lib.Ieee.{Float}
 use Rattle.error.specs.Names.{floatWorkSlice, integerWorkSlice}
-use Rattle.error.specs.Numbers.{Outcome, completed, refused, andThen, also, whole, leaves}
-use Rattle.profile.specs.Checks.{validity}
+use Rattle.error.specs.Numbers.{Outcome, completed, refused, andThen, whole, leaves}
 use Rattle.lloyd_events.specs.declared.LloydRepairEvent.{LloydRepairEvent}
 use Rattle.lloyd_events.specs.Events.{zeroEvent}
 use Rattle.lloyd_refine.specs.declared.LloydReport.{LloydReport}
-use Rattle.lloyd_refine.specs.Refine.{Job, sizeOf, dimOf, countOf, Room, roomOf, lengthChecks, valueChecks, refineOf, refinement, narrowed, codewordsAfter, slotsAfter}
+use Rattle.lloyd_refine.specs.Refine.{Job, sizeOf, dimOf, countOf, Room, roomOf, checksIn, refineChecks, refineOf, refinement, narrowed, codewordsAfter, slotsAfter}
 use Rattle.lloyd_refine.specs.Report.{reportOf}
 
 -- the lengths that document 01 gave slices 7 and 8
@@ -52,13 +51,12 @@ seen j codewords slots = record {
 -- by the same definitions, where slices 7 and 8 are to have the lengths of a room
 abbrev pub seenIn : Room → Job → List Float → List LloydRepairEvent → Seen
 seenIn room j codewords slots =
-    let checks = also (validity (j .profile) (j .schema) (j .algorithm) (j .log2))
-      (also (lengthChecks room j) (valueChecks j)) in
+    let checks = checksIn room j in
     record {
       answer = andThen (andThen checks (λ u. refineOf j)) (λ b. completed (reportOf j b));
       codewords = leaves checks (refineOf j) codewords (λ b. narrowed (b .codebook)) codewords;
       slots = leaves checks (refineOf j) slots (λ b. b .events ++ drop (length (b .events)) slots)
-        (replicate (length slots) zeroEvent);
+          (replicate (length slots) zeroEvent);
     }
 
 -- under document 01's lengths, of a job that is lent them
@@ -75,12 +73,15 @@ seenRefused slice codewords slots = record {
 
 -- ---- what is claimed of every job, whatever stood in codewords and slots
 pub record EitherRoom (j : Job) (codewords : List Float) (slots : List LloydRepairEvent) : Type 0 where
-  -- refine's contract is the one for its own room
+  -- past its checks the work has these lengths and no others
+  pub exact : refineChecks j ≡ completed tt
+      → (j .floatWork ≡ 3 * (sizeOf j * dimOf j) + 2 * sizeOf j) × (j .integerWork ≡ 2 * sizeOf j)
+  -- at its own room that is what refine's contract says
   pub contract : seen j codewords slots ≡ seenIn (roomOf j) j codewords slots
   -- lent the room that it asks for, it gives what it gave under the earlier lengths
   pub same : seen (lent (roomOf j) j) codewords slots ≡ seenEarlier j codewords slots
-  -- lent any, it gives that too, or is refused by 7 because slice 7 or slice 8 has another length
+  -- lent any, it gives that too, or is refused by 7 for the first of slices 7 and 8 that has another length
   pub any-lengths : (seen j codewords slots ≡ seenEarlier j codewords slots)
       ⊎ (((j .floatWork ≡ roomOf j .floats → ⊥) × (seen j codewords slots ≡ seenRefused floatWorkSlice codewords slots))
-      ⊎ ((j .integerWork ≡ roomOf j .integers → ⊥)
+      ⊎ ((j .floatWork ≡ roomOf j .floats) × (j .integerWork ≡ roomOf j .integers → ⊥)
       × (seen j codewords slots ≡ seenRefused integerWorkSlice codewords slots)))

@@ -64,8 +64,8 @@ pub record Room : Type 0 where
   pub floats : ℕ
   pub integers : ℕ
 
--- floats for the round's codebook, the best one, the words of the update, and a distortion and a farthest distance
--- for each cell; integers for a count and the number of a farthest sample for each
+-- document 02's K10: floats for the round's codebook, the best one, the words of the update, and a distortion and a
+-- farthest distance for each cell; integers for a count and the number of a farthest sample for each
 abbrev pub roomOf : Job → Room
 roomOf j = record { floats = 3 * (sizeOf j * dimOf j) + 2 * sizeOf j; integers = 2 * sizeOf j }
 
@@ -90,10 +90,13 @@ valueChecks j =
     (bounded matrixSlice (firstOutside refineLimit (j .matrices))
     (completed tt)))
 
+-- all checks, with the lengths of a room
+abbrev pub checksIn : Room → Job → Outcome Unit
+checksIn room j =
+    also (validity (j .profile) (j .schema) (j .algorithm) (j .log2)) (also (lengthChecks room j) (valueChecks j))
+
 unfoldable pub refineChecks : Job → Outcome Unit
-refineChecks j =
-    also (validity (j .profile) (j .schema) (j .algorithm) (j .log2))
-    (also (lengthChecks (roomOf j) j) (valueChecks j))
+refineChecks j = checksIn (roomOf j) j
 
 -- ---- the rounds of a restart
 

@@ -4,10 +4,10 @@ use Prim.Native.Nat.{ℕ, _+_, _*_, _≤_, _<_}
 use native.Mathlib.Nat.{zero-add, mul-le-mul-right}
 use native.Mathlib.Omega.{arith}
 use mathlib.Core.Bool.{true}
-use mathlib.Core.List.{List, _++_}
+use mathlib.Core.List.{List}
 use lib.Arith.{digits-lt}
 use lib.IntN.{pos}
-use lib.ListN.{length, getD, replicate, drop, length-replicate, getD-replicate, List·getD-append}
+use lib.ListN.{length, getD, replicate, getD-replicate}
 use lib.Seq.{getD-take, length-take-le, ext-getD}
 use lib.Ieee.{Float, nan, fin}
 use Rattle.ieee.specs.Sum.{plusZero}
@@ -35,12 +35,12 @@ same-room n k S samples work₀ work ints₀ ints r floats integers = record {
   rows = r .rows;
   few = r .few;
   floats = floats ∙ r .floats;
-  integers = omega (arith, r .integers);
+  integers = integers ∙ r .integers;
 }
 
 -- ---- nothing is added up yet
 module _ {n k S : ℕ} {samples work₀ : List Float} {ints₀ : List ℕ} (good : Roomy n k S samples work₀ ints₀) (work : List Float) (ints : List ℕ)
-    (is-work : work ≡ patched (patched work₀ (2 * (n * k)) (n * k + n) (λ i. plusZero)) (3 * (n * k) + n) n (λ i. fin true 1 (pos 0))) (is-ints : ints ≡ replicate (n + n) 0 ++ drop (n + n) ints₀) where
+    (is-work : work ≡ patched (patched work₀ (2 * (n * k)) (n * k + n) (λ i. plusZero)) (3 * (n * k) + n) n (λ i. fin true 1 (pos 0))) (is-ints : ints ≡ replicate (2 * n) 0) where
   abbrev zeroed : List Float
   zeroed = patched work₀ (2 * (n * k)) (n * k + n) (λ i. plusZero)
 
@@ -65,10 +65,8 @@ module _ {n k S : ℕ} {samples work₀ : List Float} {ints₀ : List ℕ} (good
       ap (λ (z : List Float). getD z (3 * (n * k) + n + i) nan) is-work
       ∙ patched-inside zeroed (3 * (n * k) + n) n (λ j. fin true 1 (pos 0)) i nan (omega (arith, good .floats, zeroed-size)) l
 
-  none : (i : ℕ) → i < n + n → getD ints i 0 ≡ 0
-  none i l =
-      ap (λ (z : List ℕ). getD z i 0) is-ints
-      ∙ List·getD-append (replicate (n + n) 0) (drop (n + n) ints₀) 0 i (omega (arith, length-replicate {A = ℕ} (n + n) 0)) ∙ getD-replicate (n + n) i 0 0 l
+  none : (i : ℕ) → i < 2 * n → getD ints i 0 ≡ 0
+  none i l = ap (λ (z : List ℕ). getD z i 0) is-ints ∙ getD-replicate (2 * n) i 0 0 l
 
   pub cleared-front : front n k work ≡ front n k work₀
   cleared-front = front-same n k work₀ work (omega (arith, good .floats)) cleared-size (λ i l. cleared-below i (omega arith))

@@ -46,7 +46,7 @@ pub record Addable (n k s : ℕ) (work : List Float) (ints : List ℕ) : Type 0 
   pub most : n ≤ 1048576
   pub few : s < 10000000
   pub floats : length work ≡ 3 * (n * k) + 2 * n
-  pub integers : n + n ≤ length ints
+  pub integers : length ints ≡ 2 * n
   pub counts : (c : ℕ) → c < n → getD ints c 0 ≤ s
 
 -- ---- of S samples the first s are added up, and the numbers of the farthest ones noted

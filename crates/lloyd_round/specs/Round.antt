@@ -56,7 +56,7 @@ pub record Roomy (n k S : ℕ) (samples work : List Float) (ints : List ℕ) : T
   pub rows : length samples ≡ S * k
   pub few : S ≤ 10000000
   pub floats : length work ≡ 3 * (n * k) + 2 * n
-  pub integers : n + n ≤ length ints
+  pub integers : length ints ≡ 2 * n
 
 -- before the first repair of a round over that codebook
 abbrev pub AtFirst : ℕ → ℕ → ℕ → List Float → List Float → Terms → List Float → List ℕ → Type 0

@@ -3,10 +3,10 @@
 // The public functions are public only for the crates above, which lend work of the right lengths.
 ghost use mathlib.Core.Path.{_≡_};
 ghost use mathlib.Core.Bool.{true};
-ghost use mathlib.Core.List.{List, _++_};
+ghost use mathlib.Core.List.{List};
 ghost use Prim.Native.Nat.{ℕ, _+_, _*_, _≤_, _<_};
 ghost use lib.IntN.{pos};
-ghost use lib.ListN.{length, getD, replicate, drop};
+ghost use lib.ListN.{length, getD, replicate};
 ghost use lib.Ieee.{Float, fin, nan};
 ghost use Rattle.ieee.specs.Sum.{plusZero};
 ghost use Rattle.slices.specs.Lists.{patched};
@@ -42,17 +42,16 @@ fn fill(work: &mut [f64], at: usize, count: usize, x: f64)
 
 // Nothing is added up yet: zeros, and farthest distances below every distance.
 fn clear(work: &mut [f64], ints: &mut [u32], n: usize, k: usize)
-    requires { ⌜ (0 < k) × (length (now work) ≡ 3 * (n * k) + 2 * n) × (n + n ≤ length (now ints)) ⌝ }
+    requires { ⌜ (0 < k) × (length (now work) ≡ 3 * (n * k) + 2 * n) × (length (now ints) ≡ 2 * n) ⌝ }
     ensures work { λ r. ⌜ now (work .exit)
         ≡ patched (patched (now (work .entry)) (2 * (n * k)) (n * k + n) (λ i. plusZero)) (3 * (n * k) + n) n
         (λ i. fin true 1 (pos 0)) ⌝ }
-    ensures ints { λ r. ⌜ now (ints .exit) ≡ replicate (n + n) 0 ++ drop (n + n) (now (ints .entry)) ⌝ }
+    ensures ints { λ r. ⌜ now (ints .exit) ≡ replicate (2 * n) 0 ⌝ }
 {
     let words = n * k;
     fill(&mut *work, 2 * words, words + n, 0.0);
     fill(&mut *work, 3 * words + n, n, -1.0);
-    let used = n + n;
-    slices::zero_u32(&mut ints[..used]);
+    slices::zero_u32(ints);
 }
 
 // The number of a sample's nearest codeword, and its distance to that, also where no distance is below infinity.

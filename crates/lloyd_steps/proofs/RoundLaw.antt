@@ -71,7 +71,7 @@ module _ {j : Job} {b : Best} {t : Trained} {s : RefineState} {work : List Float
         rows = p .samples-length;
         few = v .settings .samples-most;
         floats = h .floats ∙ p .floats;
-        integers = omega (arith, h .integers, p .integers, v .settings .samples-least);
+        integers = h .integers ∙ p .integers;
       }
 
   module _ (after : List Float) (left : List ℕ) (size : length after ≡ length work) (below : (i : ℕ) → i < 2 * (sizeOf j * dimOf j) → getD after i nan ≡ getD work i nan) (same : length left ≡ length ints)

@@ -3,7 +3,7 @@
 use crate::data::{wide, Shape, Training};
 use crate::measure::{prepared, side, Side};
 use crate::Bench;
-use nuqtelya::{Event, UpdateTerms, SPLIT_HIGHEST_DISTORTION};
+use nuqtelya::{Event, Room, UpdateTerms, SPLIT_HIGHEST_DISTORTION};
 use oracle::lloyd::{probe, timed};
 use std::time::Duration;
 
@@ -80,8 +80,8 @@ fn update<'a>(shape: &'a Shape, data: &'a Training) -> (Side<'a>, Side<'a>) {
 pub fn refine<'a>(shape: &'a Shape, data: &'a Training, iterations: u32) -> (Side<'a>, Side<'a>) {
     let (profile, published) = shape.profiles(1, iterations);
     let mut codewords = vec![0.0; shape.n * shape.k];
-    let mut work = vec![0.0; 4 * shape.n * shape.k + 2 * shape.n];
-    let mut counts = vec![0; shape.n + shape.s];
+    let room = Room::of(&profile).expect("a valid profile");
+    let (mut work, mut counts) = (vec![0.0; room.floats], vec![0; room.counts]);
     let mut events = vec![Event::default(); shape.n];
     let samples = timed::Samples::new(&data.samples, shape.k);
     let reached = std::rc::Rc::new(std::cell::Cell::new(None));

@@ -117,10 +117,49 @@ impl Report {
     }
 }
 
+/// How long the work is that a training is lent. It does not grow with the samples.
+#[derive(Debug, Clone, Copy, PartialEq, Eq)]
+pub struct Room {
+    /// 3×N×k + 2×N
+    pub floats: usize,
+    /// 2×N
+    pub counts: usize,
+}
+
+impl Room {
+    /// What [`refine`] takes under this profile, which has to be valid.
+    pub fn of(profile: &Profile) -> Result<Room, Refusal> {
+        profile.validate()?;
+        let (n, k) = (profile.codebook_size as usize, profile.block_dim as usize);
+        Ok(Room { floats: 3 * n * k + 2 * n, counts: 2 * n })
+    }
+}
+
 /// Trains N codewords of k values on S samples, from an initial codebook and R - 1 matrices of k × k values.
 ///
-/// Work is 4×N×k + 2×N floats and N + S counts, which end as zeros; there may be 2^20 event slots at most, and the
-/// report says how many of them hold an event.
+/// Work and counts are as long as [`Room`] says, and end as zeros; there may be 2^20 event slots at most, and the report
+/// says how many of them hold an event.
+///
+/// ```
+/// use nuqtelya::{refine, Event, Profile, Room};
+///
+/// // Vectors of 4 values in blocks of 2, and 2 codewords.
+/// let mut profile = Profile::paper_default(4, 2, 2, 7)?;
+/// profile.training_samples = 4;
+/// profile.restarts = 1;
+/// let room = Room::of(&profile)?;
+/// let (mut work, mut counts) = (vec![0.0; room.floats], vec![0; room.counts]);
+///
+/// let (initial, samples) = ([1.0, 0.0, -1.0, 0.0], [1.0, 0.0, 3.0, 0.0, -1.0, 0.0, -3.0, 0.0]);
+/// let (mut codewords, mut events) = ([0.0; 4], [Event::default(); 16]);
+/// refine(&profile, &initial, &samples, &[], &mut codewords, &mut work, &mut counts, &mut events)?;
+/// assert_eq!(codewords, [2.0, 0.0, -2.0, 0.0]);
+///
+/// // Ten million samples need no more room.
+/// profile.training_samples = 10_000_000;
+/// assert_eq!(Room::of(&profile)?, room);
+/// # Ok::<(), nuqtelya::Refusal>(())
+/// ```
 #[allow(clippy::too_many_arguments)]
 pub fn refine(
     profile: &Profile,
@@ -191,19 +230,19 @@ pub fn train(
     matrices: &[f64],
     event_slots: usize,
 ) -> Result<Trained, Refusal> {
-    // Only a profile that fits bounds the lengths below.
-    profile.validate()?;
+    // Only a profile that is valid bounds the lengths below.
+    let room = Room::of(profile)?;
     let (n, k) = (profile.codebook_size as usize, profile.block_dim as usize);
     let (count, restarts) = (profile.training_samples as usize, profile.restarts as usize);
     // A profile alone can ask for gigabytes, so there is room only beside slices of the right lengths. Others are
     // refused by their own numbers, since they come before the buffers.
     let fit = [initial.len(), samples.len(), matrices.len()] == [n * k, count * k, (restarts - 1) * k * k];
-    let room = |len: usize| if fit { len } else { 0 };
-    let mut codewords = vec![0.0; room(n * k)];
-    let mut work = vec![0.0; room(4 * n * k + 2 * n)];
-    let mut counts = vec![0; room(n + count)];
+    let fitting = |len: usize| if fit { len } else { 0 };
+    let mut codewords = vec![0.0; fitting(n * k)];
+    let mut work = vec![0.0; fitting(room.floats)];
+    let mut counts = vec![0; fitting(room.counts)];
     // More slots than can be lent are refused all the same.
-    let mut events = vec![Event::default(); room(event_slots.min(MAX_EVENT_SLOTS + 1))];
+    let mut events = vec![Event::default(); fitting(event_slots.min(MAX_EVENT_SLOTS + 1))];
     let report = refine(profile, initial, samples, matrices, &mut codewords, &mut work, &mut counts, &mut events)?;
     events.truncate(report.events_used as usize);
     Ok(Trained { codewords, report, events })

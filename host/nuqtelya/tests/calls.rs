@@ -90,7 +90,7 @@ fn a_profile_alone_takes_no_room() {
     for lengths in 0..27 {
         let [a, b, c] = [4 + lengths % 3 - 1, 6 + lengths / 3 % 3 - 1, 4 + lengths / 9 - 1];
         let (initial, samples, matrices) = (&zeros[..a], &zeros[..b], &zeros[..c]);
-        let (mut work, mut counts, mut events) = ([0.0; 20], [0; 5], [Event::default(); 8]);
+        let (mut work, mut counts, mut events) = ([0.0; 16], [0; 4], [Event::default(); 8]);
         let refined = refine(&two, initial, samples, matrices, &mut [0.0; 4], &mut work, &mut counts, &mut events);
         let refusal = train(&two, initial, samples, matrices, 8).unwrap_err();
         assert_eq!(refined, Err(refusal));
@@ -98,6 +98,30 @@ fn a_profile_alone_takes_no_room() {
         let wrong = [a != 4, b != 6, c != 4].iter().position(|wrong| *wrong);
         let expected = wrong.map_or((16, 0), |place| (7, place as u64 + 1));
         assert_eq!((refusal.number(), refusal.values()[0]), expected, "{a} {b} {c}");
+    }
+}
+
+/// Work of any other length than a room's is refused and left as it was, document 01's longer one too.
+#[test]
+fn the_room_of_a_training() {
+    let profile = profile();
+    let room = Room::of(&profile).unwrap();
+    assert_eq!((room.floats, room.counts), (16, 4));
+    assert_eq!(Room::of(&Profile { training_samples: 10_000_000, ..profile }), Ok(room));
+    assert_eq!(Room::of(&Profile { restarts: 0, ..profile }).unwrap_err().number(), 6);
+
+    let (initial, samples) = ([0.0, 0.0, 4.0, 4.0], [0.0, 0.0, 2.0, 2.0, 4.0, 4.0]);
+    for (floats, counts) in (0..=21).flat_map(|floats| (0..=6).map(move |counts| (floats, counts))) {
+        let (mut codewords, mut work, mut numbers) = ([7.0; 4], vec![7.0; floats], vec![7; counts]);
+        let answer = refine(&profile, &initial, &samples, &[], &mut codewords, &mut work, &mut numbers, &mut []);
+        let (refused, left) = match (floats, counts) {
+            (16, 4) => (None, 0),
+            (16, _) => (Some("7: wrong length: integer work"), 7),
+            _ => (Some("7: wrong length: float work"), 7),
+        };
+        assert_eq!(answer.err().map(|refusal| refusal.to_string()).as_deref(), refused, "{floats} {counts}");
+        assert!(work.iter().all(|value| *value == f64::from(left)) && numbers.iter().all(|number| *number == left));
+        assert_eq!(codewords, if left == 0 { [1.0, 1.0, 4.0, 4.0] } else { [7.0; 4] });
     }
 }
 

@@ -66,10 +66,10 @@ fn updates() {
 fn trainings() {
     for (place, job) in file().trainings.iter().enumerate() {
         let profile = profile(&job.profile);
-        let (n, count) = (profile.codebook_size as usize, profile.training_samples as usize);
+        let n = profile.codebook_size as usize;
         let values = n * profile.block_dim as usize;
         let mut codewords = vec![f32::from_bits(WHOLE); values];
-        let mut lent = Lent::new(4 * values + 2 * n, n + count, job.slots);
+        let mut lent = Lent::new(3 * values + 2 * n, 2 * n, job.slots);
         let Lent { work, counts, events } = &mut lent;
         let (initial, samples, matrices) = (&job.initial, &job.samples, &job.matrices);
         let found = nuqtelya::refine(&profile, initial, samples, matrices, &mut codewords, work, counts, events);

@@ -56,6 +56,9 @@ What is not handed in is made from the vectors and the seed:
             norm and rotated before: what encoding searches for
   start     N of the samples, drawn by their places
   matrices and rotation: random orthogonal matrices
+
+Before it begins it says what memory it takes. Beside the samples that is start, matrices, rotation, codewords, work and
+event slots; none of these grows with S.
 ";
 
 const ENCODE: &str = "\

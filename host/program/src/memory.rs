@@ -20,7 +20,7 @@ impl Need {
         self.0.iter().map(|(_, bytes)| bytes).sum()
     }
 
-    /// As "340 MB: samples 320 MB, counts 20 MB"; parts too small to matter are left out.
+    /// As "384 MB: samples 320 MB, event slots 64 MB"; parts too small to matter are left out.
     pub fn in_words(&self) -> String {
         let total = self.total();
         let parts: Vec<String> = self

@@ -8,7 +8,7 @@ use crate::inputs::{Inputs, Lent};
 use crate::memory::{zeros, Need};
 use crate::progress::while_waiting;
 use crate::{report, say};
-use nuqtelya::{Event, Profile, FAIL_CLOSED, MAX_EVENT_SLOTS, SPLIT_HIGHEST_DISTORTION};
+use nuqtelya::{Event, Profile, Room, FAIL_CLOSED, MAX_EVENT_SLOTS, SPLIT_HIGHEST_DISTORTION};
 use std::ffi::OsString;
 use std::path::{Path, PathBuf};
 use std::time::{Duration, Instant};
@@ -100,16 +100,16 @@ impl Job {
         let inputs = Inputs::open(self)?;
         let made = inputs.made(p);
         let slots = self.slots();
-        let need = self.need(slots);
+        let room = Room::of(p).map_err(Failure::refused("the settings"))?;
+        let need = self.need(room, slots);
         if !self.anyway {
             need.check()?;
         }
         say(&format!("memory: {}\n", need.in_words()))?;
 
-        let (n, values) = (p.codebook_size as usize, p.codebook_size as usize * p.block_dim as usize);
-        let mut codewords = zeros::<f32>(values)?;
-        let mut work = zeros::<f64>(4 * values + 2 * n)?;
-        let mut counts = zeros::<u32>(n + p.training_samples as usize)?;
+        let mut codewords = zeros::<f32>(p.codebook_size as usize * p.block_dim as usize)?;
+        let mut work = zeros::<f64>(room.floats)?;
+        let mut counts = zeros::<u32>(room.counts)?;
         let mut events = zeros::<Event>(slots)?;
         let Lent { rule, matrix, samples, start, matrices } = inputs.read(p)?;
         let report = while_waiting("training", self.estimate(&start, &samples), || {
@@ -129,18 +129,17 @@ impl Job {
         slots.min(MAX_EVENT_SLOTS + 1)
     }
 
-    fn need(&self, slots: usize) -> Need {
+    fn need(&self, room: Room, slots: usize) -> Need {
         let p = &self.profile;
         let (d, k, n) = (p.ambient_dim as usize, p.block_dim as usize, p.codebook_size as usize);
-        let s = p.training_samples as usize;
         Need::new()
-            .of::<f64>("samples", s * k)
+            .of::<f64>("samples", p.training_samples as usize * k)
             .of::<f64>("start", n * k)
             .of::<f64>("matrices", (p.restarts as usize - 1) * k * k)
             .of::<f64>("rotation", d * d)
             .of::<f32>("codewords", n * k)
-            .of::<f64>("float work", 4 * n * k + 2 * n)
-            .of::<u32>("counts", n + s)
+            .of::<f64>("float work", room.floats)
+            .of::<u32>("counts", room.counts)
             .of::<Event>("event slots", slots)
     }
 

@@ -14,7 +14,6 @@ record Small (p : FibQuantProfile) : Type 0 where
   values : p .«codebook_size» * p .«block_dim» ≤ 67108864
   codewords : p .«codebook_size» ≤ 1048576
   coordinates : p .«training_samples» * p .«block_dim» ≤ 10000000 * 256
-  samples : p .«training_samples» ≤ 10000000
   square : p .«block_dim» * p .«block_dim» ≤ 256 * 256
   matrices : (p .«lloyd_restarts» - 1) * (p .«block_dim» * p .«block_dim») ≤ 1024 * (256 * 256)
 
@@ -27,7 +26,6 @@ small c =
       values = v .values-most;
       codewords = v .shape .book-most;
       coordinates = mul-le-mul (v .settings .samples-most) k;
-      samples = v .settings .samples-most;
       square = mul-le-mul k k;
       matrices = mul-le-mul r (mul-le-mul k k);
     }

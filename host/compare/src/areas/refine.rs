@@ -41,6 +41,7 @@ pub fn run(run: &mut Run) -> Outcome {
         random(run, n, k, n + more.min(8_000_000 / work), restarts, iterations)?;
     }
     many_rounds(run)?;
+    rooms(run)?;
     wrong(run)?;
     reports(run)?;
     run.met(
@@ -67,7 +68,7 @@ fn job(n: usize, k: usize, initial: &[f64], samples: &[f64], restarts: usize, it
         samples: samples.to_vec(),
         matrices: matrix.repeat(restarts - 1),
         codewords: n * k,
-        lent: Lent { work: 4 * n * k + 2 * n, counts: n + count, slots },
+        lent: Lent { work: 3 * n * k + 2 * n, counts: 2 * n, slots },
     }
 }
 
@@ -134,8 +135,27 @@ fn lending(mut job: Job, slots: usize) -> Job {
     job
 }
 
+/// Every length of the work up to those of document 01 and one more, also where the samples are wrong.
+fn rooms(run: &mut Run) -> Outcome {
+    for (n, k, count) in [(2, 1, 2), (2, 1, 4), (2, 2, 3), (3, 1, 3), (3, 2, 5)] {
+        let samples: Vec<f64> = (0..count * k).map(|i| (i % 3) as f64).collect();
+        for initial in [&samples[..n * k], &vec![1.0; n * k]] {
+            for work in 0..=4 * n * k + 2 * n + 1 {
+                for counts in 0..=n + count + 1 {
+                    let mut job = job(n, k, initial, &samples, 2, 2, 3);
+                    (job.lent.work, job.lent.counts) = (work, counts);
+                    case(run, &job)?;
+                    job.samples[0] = f64::NAN;
+                    case(run, &job)?;
+                }
+            }
+        }
+    }
+    Ok(())
+}
+
 /// What makes a job wrong, or right at its limit.
-const FAULTS: [fn(&mut Job); 43] = [
+const FAULTS: [fn(&mut Job); 44] = [
     |j| j.log2 = f64::NAN,
     |j| (j.log2, j.profile.paper_rate) = (7.0, 7.0 / f64::from(j.profile.block_dim)),
     |j| j.log2 += 1e-9,
@@ -173,6 +193,7 @@ const FAULTS: [fn(&mut Job); 43] = [
     |j| j.codewords += 1,
     |j| j.lent.work -= 1,
     |j| j.lent.work += 1,
+    |j| j.lent.work += j.initial.len(),
     |j| j.lent.counts -= 1,
     |j| j.lent.counts += 1,
     |j| j.lent.slots = 0,
@@ -271,8 +292,8 @@ fn checks(job: &Job) -> Answer<()> {
     length(2, job.samples.len() == count * k)?;
     length(3, job.matrices.len() == (p.restarts as usize - 1) * k * k)?;
     length(4, job.codewords == n * k)?;
-    length(7, job.lent.work == 4 * n * k + 2 * n)?;
-    length(8, job.lent.counts == n + count)?;
+    length(7, job.lent.work == 3 * n * k + 2 * n)?;
+    length(8, job.lent.counts == 2 * n)?;
     length(9, job.lent.slots <= 1 << 20)?;
     bounded(1, &job.initial, LIMIT)?;
     bounded(2, &job.samples, LIMIT)?;
