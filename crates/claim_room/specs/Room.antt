@@ -76,7 +76,7 @@ pub record EitherRoom (j : Job) (codewords : List Float) (slots : List LloydRepa
   -- past its checks the work has these lengths and no others
   pub exact : refineChecks j ≡ completed tt
       → (j .floatWork ≡ 3 * (sizeOf j * dimOf j) + 2 * sizeOf j) × (j .integerWork ≡ 2 * sizeOf j)
-  -- at its own room that is what refine's contract says
+  -- `seenIn` at refine's own room is what its contract says
   pub contract : seen j codewords slots ≡ seenIn (roomOf j) j codewords slots
   -- lent the room that it asks for, it gives what it gave under the earlier lengths
   pub same : seen (lent (roomOf j) j) codewords slots ≡ seenEarlier j codewords slots
