@@ -10,7 +10,8 @@ use lib.Ieee.{Float, lt}
 use lib.Ieee.Scale.{finite}
 use Rattle.error.specs.Numbers.{completed}
 use Rattle.error.proofs.Outcomes.{completed-same, then-completed}
-use Rattle.lloyd_refine.specs.Refine.{Job, restartsOf, iterationsOf, Trained, roundsTo, errorOf, Best, trainedFrom, restart, afterRestart, restartOn, restartsTo}
+use Rattle.lloyd_refine.specs.declared.Winner.the-variants.{Restart}
+use Rattle.lloyd_refine.specs.Refine.{Job, restartsOf, iterationsOf, Trained, roundsTo, errorOf, Best, trainedFrom, afterRestart, restartOn, restartsTo}
 use Rattle.lloyd_refine.proofs.CheckLaw.{Passed}
 use Rattle.claim_refinement.proofs.StandLaw.{initial-within}
 use Rattle.claim_refinement.proofs.TameLaw.{Tame, rounds-tame}
@@ -31,7 +32,7 @@ module _ (j : Job) (pass : Passed j) where
   either r b t h k = go (lt (errorOf j (t .codebook)) (b .error))
     where
       go : (q : Bool) → TameBest (cond q
-          (record { codebook = t .codebook; error = errorOf j (t .codebook); winner = restart r; events = t .events })
+          (record { codebook = t .codebook; error = errorOf j (t .codebook); winner = Restart r; events = t .events })
           (record { codebook = b .codebook; error = b .error; winner = b .winner; events = t .events }))
       go true = (k, error-is-finite (t .codebook) k)
       go false = h

@@ -3,6 +3,7 @@ pub mod DonorLaw
 pub mod CourseLaw
 pub mod StandLaw
 pub mod TameLaw
+pub mod WinnerLaw
 pub mod WinsLaw
 pub mod AloneLaw
 pub mod RoundsLaw

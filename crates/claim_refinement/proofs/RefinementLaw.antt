@@ -1,6 +1,6 @@
 -- Demand 3 on refinement: `any-refinement`, at the end, for any job.
 -- Assumes nothing.
-use mathlib.Core.Path.{_≡_, refl}
+use mathlib.Core.Path.{_≡_}
 use native.Mathlib.Omega.{arith}
 use Rattle.error.specs.Numbers.{completed}
 use Rattle.error.proofs.Outcomes.{then-completed}
@@ -25,7 +25,6 @@ module _ (j : Job) where
         restarts = λ r l. rounds j pass r (iterationsOf j) l (best-came j R b done r (omega arith)) _ (end-came j R b done r l);
         logged = logged j pass b checks done;
         written = λ before. rw (checks, done);
-        reported = refl;
       }
 
   pub refinement-law : (b : Best) → refinement j ≡ completed b → AcceptedRefinement j b

@@ -5,7 +5,7 @@
 -- r is candidate r + 1; the error is measured before narrowing.
 -- Definitions only.
 use mathlib.Core.Path.{_≡_}
-use mathlib.Core.Logic.{_⊎_}
+use mathlib.Core.Logic.{_⊎_, _↔_}
 use Prim.Native.Nat.{ℕ, zero, suc, _+_, _-_, _*_, _<_, _≤_}
 use mathlib.Core.Bool.{not}
 use mathlib.Core.List.{List, [], _∷_}
@@ -22,7 +22,10 @@ use Rattle.lloyd_events.specs.declared.LloydRepairEvent.{LloydRepairEvent}
 use Rattle.lloyd_cells.specs.Repair.{Repaired}
 use Rattle.lloyd_round.specs.Round.{nearestCells}
 use Rattle.lloyd_update.specs.Alone.{Call, updateChecks, updateAlone}
-use Rattle.lloyd_refine.specs.Refine.{Job, sizeOf, dimOf, countOf, restartsOf, iterationsOf, Trained, roundOf, afterRound, roundsTo, startOf, errorOf, Best, Winner, start, restart, trainedFrom, restartsTo, refineChecks, refinement, narrowed, codewordsAfter, slotsAfter}
+use Rattle.lloyd_refine.specs.declared.Winner.{Winner}
+use Rattle.lloyd_refine.specs.declared.Winner.the-variants.{StartKept, Restart}
+use Rattle.lloyd_refine.specs.declared.LloydReport.{LloydReport}
+use Rattle.lloyd_refine.specs.Refine.{Job, sizeOf, dimOf, countOf, restartsOf, iterationsOf, Trained, roundOf, afterRound, roundsTo, startOf, errorOf, Best, trainedFrom, restartsTo, refineChecks, refinement, narrowed, codewordsAfter, slotsAfter}
 use Rattle.lloyd_refine.specs.Report.{reportOf}
 use Rattle.claim_history.specs.History.{Request, callWith, after, answers, Tallies, History}
 
@@ -65,18 +68,36 @@ candidate j c zero = j .initial
 candidate j c (suc r) = c .stand r (iterationsOf j) .codebook
 
 abbrev pub placeOf : Winner → ℕ
-placeOf start = 0
-placeOf (restart r) = suc r
+placeOf StartKept = 0
+placeOf (Restart r) = suc r
 
--- of the finite errors of the candidates the least is returned, with
--- its codebook: every other has no less, every earlier one more
-pub record Wins (j : Job) (c : Course) (b : Best) : Type 0 where
-  pub one-of : placeOf (b .winner) < suc (restartsOf j)
-  pub codebook : b .codebook ≡ candidate j c (placeOf (b .winner))
-  pub error : b .error ≡ errorOf j (b .codebook)
-  pub finite-errors : (p : ℕ) → p < suc (restartsOf j) → T (finite (errorOf j (candidate j c p)))
-  pub none-less : (p : ℕ) → p < suc (restartsOf j) → T (not (lt (errorOf j (candidate j c p)) (b .error)))
-  pub earlier-more : (p : ℕ) → p < placeOf (b .winner) → T (lt (b .error) (errorOf j (candidate j c p)))
+-- the error of candidate p
+abbrev pub errorAt : Job → Course → ℕ → Float
+errorAt j c p = errorOf j (candidate j c p)
+
+-- restart r is the first with the least error of all restarts, and has beaten the start
+pub record FirstLeast (j : Job) (c : Course) (r : ℕ) : Type 0 where
+  pub below : r < restartsOf j
+  pub start-more : T (lt (errorAt j c (suc r)) (errorAt j c 0))
+  pub none-less : (q : ℕ) → q < restartsOf j → T (not (lt (errorAt j c (suc q)) (errorAt j c (suc r))))
+  pub earlier-more : (q : ℕ) → q < r → T (lt (errorAt j c (suc r)) (errorAt j c (suc q)))
+
+-- of the finite errors of the candidates the least is returned, with its codebook: every
+-- other has no less, every earlier one more; and the report that the caller reads says which
+pub record Wins (j : Job) (c : Course) (returned : List Float) (r : LloydReport) : Type 0 where
+  pub one-of : placeOf (r .«best_restart») < suc (restartsOf j)
+  pub codebook : returned ≡ candidate j c (placeOf (r .«best_restart»))
+  pub error : r .«best_mse» ≡ errorOf j returned
+  pub start-error : r .«init_mse» ≡ errorOf j (j .initial)
+  pub finite-errors : (p : ℕ) → p < suc (restartsOf j) → T (finite (errorAt j c p))
+  pub none-less : (p : ℕ) → p < suc (restartsOf j) → T (not (lt (errorAt j c p) (r .«best_mse»)))
+  pub earlier-more : (p : ℕ) → p < placeOf (r .«best_restart») → T (lt (r .«best_mse») (errorAt j c p))
+  -- the start was kept exactly where no restart's error is below its own, and the two errors tell
+  pub start-kept : (r .«best_restart» ≡ StartKept)
+      ↔ ((q : ℕ) → q < restartsOf j → T (not (lt (errorAt j c (suc q)) (r .«init_mse»))))
+  pub errors-tell : (r .«best_restart» ≡ StartKept) ↔ (r .«best_mse» ≡ r .«init_mse»)
+  -- restart q won exactly where it is the first of least error
+  pub restart-won : (q : ℕ) → (r .«best_restart» ≡ Restart q) ↔ FirstLeast j c q
 
 -- ---- how far a refinement comes
 -- t stands before round i of restart r, or at the restart's end where i is I: the earlier restarts and the earlier
@@ -153,13 +174,12 @@ SameRefusal j t n vs o =
 pub record AcceptedRefinement (j : Job) (b : Best) : Type 0 where
   pub course : Course
   pub ran : Ran j course b
-  pub wins : Wins j course b
+  pub wins : Wins j course (b .codebook) (reportOf j b)
   -- the rounds of each restart are a history, and its events stand in the slots
   pub restarts : (r : ℕ) → r < restartsOf j → Rounds j course r (iterationsOf j)
   pub logged : (r : ℕ) → r < restartsOf j → Logged j course r
-  -- the caller's codewords become that codebook, narrowed, and the report holds that error
+  -- the caller's codewords become that codebook, narrowed
   pub written : (before : List Float) → codewordsAfter j before ≡ narrowed (b .codebook)
-  pub reported : reportOf j b .«best_mse» ≡ b .error
 
 -- of one refused after its checks: the rounds that were completed are a history, restart by restart, and it came to a
 -- round that update alone refuses too, past its own checks; crate claim_rule says what that refusal means

@@ -1,10 +1,13 @@
 -- What an update is told as the host hands it in, and a refinement's report as it hands it in and gets it back.
 -- Definitions only.
 use Prim.Native.Nat.{ℕ}
+use mathlib.Core.Bool.{Bool, true, false}
 use mathlib.Core.List.{List, [], _∷_}
 use lib.Ieee.{Float}
 use Rattle.error.specs.Numbers.{Value, real, Outcome, completed, refused}
 use Rattle.lloyd_update.specs.declared.UpdateTerms.{UpdateTerms}
+use Rattle.lloyd_refine.specs.declared.Winner.{Winner}
+use Rattle.lloyd_refine.specs.declared.Winner.the-variants.{StartKept, Restart}
 use Rattle.lloyd_refine.specs.declared.LloydReport.{LloydReport}
 use Rattle.ffi_profile.specs.Choices.{policyAt}
 
@@ -18,16 +21,30 @@ termsFrom n k policyNumber restart iteration = record {
   iteration = iteration;
 }
 
+-- which codebook won: whether a restart did, and its number, 0 where the start was kept
+abbrev pub wonOf : Winner → ℕ
+wonOf StartKept = 0
+wonOf (Restart r) = 1
+
+abbrev pub numberOf : Winner → ℕ
+numberOf StartKept = 0
+numberOf (Restart r) = r
+
+-- and back: the number is not read where the start was kept
+abbrev pub winnerFrom : (won : Bool) (number : ℕ) → Winner
+winnerFrom false number = StartKept
+winnerFrom true number = Restart number
+
 -- the report of these members
-abbrev pub reportFrom : (restarts iterations samples : ℕ) (initial best : Float) (bestRestart repaired used seed : ℕ)
-    → LloydReport
-reportFrom restarts iterations samples initial best bestRestart repaired used seed = record {
+abbrev pub reportFrom : (restarts iterations samples : ℕ) (initial best : Float) (winner : Winner)
+    (repaired used seed : ℕ) → LloydReport
+reportFrom restarts iterations samples initial best winner repaired used seed = record {
   restarts = restarts;
   iterations = iterations;
   «training_samples» = samples;
   «init_mse» = initial;
   «best_mse» = best;
-  «best_restart» = bestRestart;
+  «best_restart» = winner;
   «empty_cells_repaired» = repaired;
   «events_used» = used;
   seed = seed;
@@ -39,8 +56,8 @@ errorsIn r = real (r .«init_mse») ∷ real (r .«best_mse») ∷ []
 
 -- its other members
 unfoldable pub membersOf : LloydReport → List ℕ
-membersOf r = r .restarts ∷ r .iterations ∷ r .«training_samples» ∷ r .«best_restart» ∷ r .«empty_cells_repaired» ∷
-    r .«events_used» ∷ r .seed ∷ []
+membersOf r = r .restarts ∷ r .iterations ∷ r .«training_samples» ∷ wonOf (r .«best_restart») ∷
+    numberOf (r .«best_restart») ∷ r .«empty_cells_repaired» ∷ r .«events_used» ∷ r .seed ∷ []
 
 -- what the room for them holds afterwards
 abbrev pub reportAfter : Outcome LloydReport → List ℕ → List ℕ

@@ -5,6 +5,7 @@ use ffi_crossing::put_refusal;
 use lloyd_events::LloydRepairEvent;
 use lloyd_refine::LloydReport;
 use lloyd_refine::Refinement;
+use lloyd_refine::Winner;
 use lloyd_update::UpdateTerms;
 use lloyd_update::Updated;
 ghost use mathlib.Core.Path.{_≡_};
@@ -19,7 +20,7 @@ ghost use Rattle.lloyd_refine.specs.Report.{refinementOf, reportOf, reportTest}
 ghost use Rattle.lloyd_refine.specs.Standing.{jobOf};
 ghost use Rattle.ffi_profile.specs.Profiles.{profileFrom};
 ghost use Rattle.ffi_crossing.specs.Crossing.{found, crossed, none, oneWhole};
-ghost use Rattle.ffi_training.specs.Training.{termsFrom, reportFrom, errorsIn, reportAfter};
+ghost use Rattle.ffi_training.specs.Training.{termsFrom, winnerFrom, reportFrom, wonOf, numberOf, errorsIn, reportAfter};
 
 // The terms of an update.
 fn terms(
@@ -82,11 +83,40 @@ pub extern "C" fn fib_update(
     put_updated(answer, whole, real)
 }
 
+// Which codebook won: whether a restart did, and its number, 0 where the start was kept.
+fn won(winner: Winner) -> u64
+    ensures { λ r. ⌜ r ≡ wonOf winner ⌝ }
+{
+    match winner {
+        Winner::StartKept => 0,
+        Winner::Restart(_) => 1,
+    }
+}
+
+fn number(winner: Winner) -> u64
+    ensures { λ r. ⌜ r ≡ numberOf winner ⌝ }
+{
+    match winner {
+        Winner::StartKept => 0,
+        Winner::Restart(restart) => restart as u64,
+    }
+}
+
+// And back: the number is not read where the start was kept.
+fn winner_from(restart_won: bool, restart: u32) -> Winner
+    ensures { λ r. ⌜ r ≡ winnerFrom «restart_won» restart ⌝ }
+{
+    if restart_won {
+        return Winner::Restart(restart);
+    }
+    Winner::StartKept
+}
+
 // The answer of a refinement: its two errors in `real`, the report's
 // other members in `report`, which a refusal leaves as it was.
 fn put_refined(
     answer: Refinement,
-    report: &mut [u64; 7],
+    report: &mut [u64; 8],
     whole: &mut [u64; 4],
     real: &mut [f64; 2],
 ) -> u32
@@ -95,11 +125,13 @@ fn put_refined(
 {
     match answer {
         Refinement::Report(found) => {
+            let winner = found.best_restart;
             *report = [
                 found.restarts as u64,
                 found.iterations as u64,
                 found.training_samples as u64,
-                found.best_restart as u64,
+                won(winner),
+                number(winner),
                 found.empty_cells_repaired as u64,
                 found.events_used as u64,
                 found.seed,
@@ -145,7 +177,7 @@ pub extern "C" fn fib_refine(
     work: &mut [f64],
     counts: &mut [u32],
     events: &mut [LloydRepairEvent],
-    report: &mut [u64; 7],
+    report: &mut [u64; 8],
     whole: &mut [u64; 4],
     real: &mut [f64; 2],
 ) -> u32
@@ -206,6 +238,7 @@ pub extern "C" fn fib_validate_report(
     training_samples_reported: u32,
     init_mse: f64,
     best_mse: f64,
+    restart_won: bool,
     best_restart: u32,
     empty_cells_repaired: u32,
     events_used: u32,
@@ -230,7 +263,7 @@ pub extern "C" fn fib_validate_report(
     real: &mut [f64; 2],
 ) -> u32
     ensures { λ r. ⌜ (let report = reportFrom «restarts_reported» «iterations_reported» «training_samples_reported»
-        «init_mse» «best_mse» «best_restart» «empty_cells_repaired» «events_used» seed in
+        «init_mse» «best_mse» (winnerFrom «restart_won» «best_restart») «empty_cells_repaired» «events_used» seed in
         let profile = profileFrom «ambient_dim» «block_dim» «codebook_size» «paper_rate» «wire_index_bits» «wire_rate»
         «norm_format» «rotation_seed» «codebook_seed» «source_mode» «radius_method» «direction_method» restarts
         iterations «training_samples» «empty_cell_policy» in
@@ -261,7 +294,7 @@ pub extern "C" fn fib_validate_report(
         training_samples: training_samples_reported,
         init_mse,
         best_mse,
-        best_restart,
+        best_restart: winner_from(restart_won, best_restart),
         empty_cells_repaired,
         events_used,
         seed,

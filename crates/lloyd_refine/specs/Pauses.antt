@@ -10,6 +10,7 @@ use Rattle.lloyd_events.specs.Events.{zeroEvent}
 use Rattle.lloyd_cells.specs.Repair.{Repaired}
 use Rattle.lloyd_repair.specs.declared.Turn.{Turn}
 use Rattle.lloyd_repair.specs.declared.Turn.the-variants as turns
+use Rattle.lloyd_refine.specs.declared.Winner.the-variants.{Restart}
 use Rattle.lloyd_refine.specs.declared.LloydReport.{LloydReport}
 use Rattle.lloyd_refine.specs.declared.Refinement.{Refinement}
 use Rattle.lloyd_refine.specs.declared.Refinement.the-variants.{Report, Refused}
@@ -72,7 +73,7 @@ withBest e s = record {
   made = s .made;
   «init_mse» = s .«init_mse»;
   «best_mse» = e;
-  «best_restart» = s .restart;
+  «best_restart» = Restart (s .restart);
 }
 
 -- every cell of a round has had its turn, and `events` are all events so far

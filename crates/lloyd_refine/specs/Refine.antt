@@ -22,6 +22,8 @@ use Rattle.lloyd_events.specs.Events.{zeroEvent}
 use Rattle.lloyd_cells.specs.Repair.{Terms, Repaired}
 use Rattle.lloyd_cells.specs.Update.{updated}
 use Rattle.lloyd_round.specs.Round.{cellOf}
+use Rattle.lloyd_refine.specs.declared.Winner.{Winner}
+use Rattle.lloyd_refine.specs.declared.Winner.the-variants.{StartKept, Restart}
 
 -- ---- what a refinement is given, but the contents of the buffers that it writes; of these the lengths
 pub record Job : Type 0 where
@@ -155,16 +157,6 @@ startOf j r = cond (eqb r 0) (j .initial) (rotated j r)
 abbrev pub errorOf : Job → List Float → Float
 errorOf j codebook = meanError (dimOf j) (sizeOf j) (rowOf (dimOf j) codebook) (rowOf (dimOf j) (j .samples)) (countOf j)
 
--- which codebook is kept: the start, or the end of a restart
-pub data Winner : Type 0 where
-  start : Winner
-  restart : ℕ → Winner
-
--- best_restart: 0 where none won
-abbrev pub restartOf : Winner → ℕ
-restartOf start = 0
-restartOf (restart r) = r
-
 -- the best codebook so far with its error, and all events so far
 pub record Best : Type 0 where
   pub codebook : List Float
@@ -173,12 +165,12 @@ pub record Best : Type 0 where
   pub events : List LloydRepairEvent
 
 abbrev pub startBest : Job → Best
-startBest j = record { codebook = j .initial; error = errorOf j (j .initial); winner = start; events = [] }
+startBest j = record { codebook = j .initial; error = errorOf j (j .initial); winner = StartKept; events = [] }
 
 -- the end t of restart r beside the best before it: a strictly smaller error wins
 abbrev pub afterRestart : Job → ℕ → Best → Trained → Best
 afterRestart j r b t = cond (lt (errorOf j (t .codebook)) (b .error))
-    (record { codebook = t .codebook; error = errorOf j (t .codebook); winner = restart r; events = t .events })
+    (record { codebook = t .codebook; error = errorOf j (t .codebook); winner = Restart r; events = t .events })
     (record { codebook = b .codebook; error = b .error; winner = b .winner; events = t .events })
 
 -- restart r, after earlier ones that came to b

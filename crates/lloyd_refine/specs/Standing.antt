@@ -13,7 +13,7 @@ use Rattle.lloyd_repair.specs.Running.{Running}
 use Rattle.lloyd_round.specs.Round.{meansOf, farOf, placesOf, numbersOf, Holding}
 use Rattle.lloyd_refine.specs.declared.RefineState.{RefineState}
 use Rattle.lloyd_refine.specs.declared.RefineStep.{RefineStep}
-use Rattle.lloyd_refine.specs.Refine.{Job, sizeOf, dimOf, countOf, restartsOf, iterationsOf, refineChecks, roundTerms, roundOf, Trained, roundsTo, trainedFrom, errorOf, Best, restartOf, restartsTo, refinement}
+use Rattle.lloyd_refine.specs.Refine.{Job, sizeOf, dimOf, countOf, restartsOf, iterationsOf, refineChecks, roundTerms, roundOf, Trained, roundsTo, trainedFrom, errorOf, Best, restartsTo, refinement}
 use Rattle.lloyd_refine.specs.Report.{refinementOf, reportOf}
 
 -- the job that the arguments make
@@ -62,7 +62,7 @@ pub record InRound (j : Job) (b : Best) (t : Trained) (u : Repaired) (s : Refine
   pub made : s .made ≡ length (u .events)
   pub init : s .«init_mse» ≡ errorOf j (j .initial)
   pub best : s .«best_mse» ≡ b .error
-  pub winner : s .«best_restart» ≡ restartOf (b .winner)
+  pub winner : s .«best_restart» ≡ b .winner
 
 -- a repair was made; its event waits to be written after `events`
 pub record Going (j : Job) (events : List LloydRepairEvent) (work : List Float) (ints : List ℕ)

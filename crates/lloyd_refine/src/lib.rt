@@ -20,7 +20,7 @@ ghost use Rattle.lloyd_events.specs.declared.LloydRepairEvent.{LloydRepairEvent
 ghost use Rattle.lloyd_events.specs.Events.{zeroEvent};
 ghost use Rattle.lloyd_cells.specs.Repair.{Repaired};
 ghost use Rattle.lloyd_refine.specs.Refine.{Job, Best, Trained, refineLimit, roomOf, lengthChecks, refineChecks};
-ghost use Rattle.lloyd_refine.specs.Report.{sameSettings, reportTest};
+ghost use Rattle.lloyd_refine.specs.Report.{winnerBelow, sameSettings, reportTest};
 ghost use Rattle.lloyd_refine.specs.Standing.{jobOf, InRound, Matches};
 ghost use Rattle.lloyd_refine.specs.Pauses.{isReport, reportIn, withBest, Paused, Pausing, ReadyIn};
 use error::Checked;
@@ -33,6 +33,12 @@ use lloyd_repair::Turn;
 use profile::FibQuantProfile;
 use slices::First;
 
+// Which codebook a refinement returns: the start, or the end of a restart.
+pub enum Winner {
+    StartKept,
+    Restart(u32),
+}
+
 // What a refinement found. It counts the repairs and the events that were written.
 pub struct LloydReport {
     pub restarts: u32,
@@ -40,7 +46,7 @@ pub struct LloydReport {
     pub training_samples: u32,
     pub init_mse: f64,
     pub best_mse: f64,
-    pub best_restart: u32,
+    pub best_restart: Winner,
     pub empty_cells_repaired: u32,
     pub events_used: u32,
     pub seed: u64,
@@ -63,7 +69,7 @@ pub struct RefineState {
     pub made: usize,
     pub init_mse: f64,
     pub best_mse: f64,
-    pub best_restart: u32,
+    pub best_restart: Winner,
 }
 
 // Where a refinement stands: a repair was made and its event is to be written, or it has stopped with its answer.
@@ -195,13 +201,14 @@ pub fn report(profile: FibQuantProfile, s: RefineState) -> LloydReport
     requires { ⌜ s .before ≤ 1048576 ⌝ }
     ensures { λ r. ⌜ r ≡ reportIn profile s ⌝ }
 {
+    let best_restart = s.best_restart;
     LloydReport {
         restarts: profile.lloyd_restarts,
         iterations: profile.lloyd_iterations,
         training_samples: profile.training_samples,
         init_mse: s.init_mse,
         best_mse: s.best_mse,
-        best_restart: s.best_restart,
+        best_restart,
         empty_cells_repaired: s.before as u32,
         events_used: s.before as u32,
         seed: profile.codebook_seed,
@@ -298,6 +305,22 @@ pub fn repair_on(
     paused(profile, s, turn)
 }
 
+// This restart's end is the best so far.
+fn with_best(error: f64, s: RefineState) -> RefineState
+    ensures { λ r. ⌜ r ≡ withBest error s ⌝ }
+{
+    RefineState {
+        restart: s.restart,
+        iteration: s.iteration,
+        next: s.next,
+        before: s.before,
+        made: s.made,
+        init_mse: s.init_mse,
+        best_mse: error,
+        best_restart: Winner::Restart(s.restart),
+    }
+}
+
 // The end of a restart: its codebook is kept where its mean error is strictly less than the best so far.
 pub fn keep_better(
     samples: &[f64],
@@ -321,13 +344,11 @@ pub fn keep_better(
 {
     let values = n * k;
     let error = lloyd_search::mean_error(&work[..values], n, k, samples);
-    let mut kept = s;
     if error < s.best_mse {
         lloyd_restart::copy_part(work, 0, values, values);
-        kept.best_mse = error;
-        kept.best_restart = s.restart;
+        return with_best(error, s);
     }
-    kept
+    s
 }
 
 // The end: an accepted refinement writes the codewords from the
@@ -374,7 +395,17 @@ pub fn refused_after_start(s: RefineStep) -> bool
     }
 }
 
-// Whether a report has the profile's settings.
+// Whether the start was kept, or the restart that won is one of so many.
+fn is_below(winner: Winner, restarts: u32) -> bool
+    ensures { λ r. ⌜ r ≡ winnerBelow restarts winner ⌝ }
+{
+    match winner {
+        Winner::StartKept => true,
+        Winner::Restart(r) => r < restarts,
+    }
+}
+
+// Whether a report has the profile's settings, and a winner that they allow.
 fn same_settings(report: LloydReport, profile: FibQuantProfile) -> bool
     ensures { λ r. ⌜ r ≡ sameSettings report profile ⌝ }
 {
@@ -387,7 +418,11 @@ fn same_settings(report: LloydReport, profile: FibQuantProfile) -> bool
     if report.training_samples != profile.training_samples {
         return false;
     }
-    report.seed == profile.codebook_seed
+    if report.seed != profile.codebook_seed {
+        return false;
+    }
+    let winner = report.best_restart;
+    is_below(winner, profile.lloyd_restarts)
 }
 
 // A report against its profile: its schema and settings, its errors, its counts.

@@ -19,10 +19,11 @@ use Rattle.rotation.specs.Apply.{appliedAt}
 use Rattle.lloyd_search.specs.Distance.{rowOf}
 use Rattle.lloyd_search.specs.Nearest.{meanError}
 use Rattle.lloyd_round.specs.Round.{Holding}
+use Rattle.lloyd_refine.specs.declared.Winner.the-variants.{Restart}
 use Rattle.lloyd_refine.specs.declared.Refinement.the-variants.{Report}
 use Rattle.lloyd_refine.specs.declared.RefineState.{RefineState}
 use Rattle.lloyd_refine.specs.declared.RefineStep.{RefineStep}
-use Rattle.lloyd_refine.specs.Refine.{Job, sizeOf, dimOf, countOf, restartsOf, iterationsOf, refineChecks, Trained, roundsTo, matrixOf, initialWord, rotated, startOf, trainedFrom, errorOf, restart, restartOf, Best, afterRestart, restartsTo, refineOf, refinement}
+use Rattle.lloyd_refine.specs.Refine.{Job, sizeOf, dimOf, countOf, restartsOf, iterationsOf, refineChecks, Trained, roundsTo, matrixOf, initialWord, rotated, startOf, trainedFrom, errorOf, Best, afterRestart, restartsTo, refineOf, refinement}
 use Rattle.lloyd_refine.specs.Report.{refinementOf, reportOf}
 use Rattle.lloyd_refine.specs.Standing.{RefineProgress}
 use Rattle.lloyd_refine.specs.Pauses.{reportIn, withBest}
@@ -65,7 +66,7 @@ pub record Kept (j : Job) (r : ℕ) (b : Best) (s : RefineState) (work : List Fl
   pub made : s .made ≡ 0
   pub init : s .«init_mse» ≡ errorOf j (j .initial)
   pub best : s .«best_mse» ≡ b .error
-  pub winner : s .«best_restart» ≡ restartOf (b .winner)
+  pub winner : s .«best_restart» ≡ b .winner
 
 -- the error that keep_better measures, and what it makes of state and work
 abbrev pub errorIn : Job → List Float → Float
@@ -102,7 +103,7 @@ module _ {j : Job} {b : Best} {t : Trained} {s : RefineState} {work : List Float
   by-test : (z : Bool) → lt (errorIn j work) (s .«best_mse») ≡ z → Kept j (s .restart + 1) after (cond z (withBest (errorIn j work) s) s) (cond z (copied j work) work)
   by-test true e =
       let q : lt (errorOf j (t .codebook)) (b .error) ≡ true = ap (λ (x : Float). lt x (b .error)) (sym is-error) ∙ ap (lt (errorIn j work)) (sym (h .best)) ∙ e in
-      let w : after ≡ record { codebook = t .codebook; error = errorOf j (t .codebook); winner = restart (s .restart); events = t .events } = rw q in
+      let w : after ≡ record { codebook = t .codebook; error = errorOf j (t .codebook); winner = Restart (s .restart); events = t .events } = rw q in
       record {
         floats = length-patched work (sizeOf j * dimOf j) (sizeOf j * dimOf j) (λ i. getD work (0 + i) nan) ∙ h .floats;
         bests = bests-after;
@@ -112,7 +113,7 @@ module _ {j : Job} {b : Best} {t : Trained} {s : RefineState} {work : List Float
         made = h .made;
         init = h .init;
         best = is-error ∙ ap (λ (x : Best). x .error) (sym w);
-        winner = ap (λ (x : Best). restartOf (x .winner)) (sym w);
+        winner = ap (λ (x : Best). x .winner) (sym w);
       }
   by-test false e =
       let q : lt (errorOf j (t .codebook)) (b .error) ≡ false = ap (λ (x : Float). lt x (b .error)) (sym is-error) ∙ ap (lt (errorIn j work)) (sym (h .best)) ∙ e in
@@ -126,7 +127,7 @@ module _ {j : Job} {b : Best} {t : Trained} {s : RefineState} {work : List Float
         made = h .made;
         init = h .init;
         best = h .best ∙ ap (λ (x : Best). x .error) (sym w);
-        winner = h .winner ∙ ap (λ (x : Best). restartOf (x .winner)) (sym w);
+        winner = h .winner ∙ ap (λ (x : Best). x .winner) (sym w);
       }
 
   pub restart-ended : (r : RefineState) (new : List Float) → r ≡ cond (lt (errorIn j work) (s .«best_mse»)) (withBest (errorIn j work) s) s → new ≡ cond (lt (errorIn j work) (s .«best_mse»)) (copied j work) work

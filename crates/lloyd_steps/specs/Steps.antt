@@ -8,9 +8,10 @@ use Rattle.error.specs.Numbers.{completed}
 use Rattle.profile.specs.declared.FibQuantProfile.{FibQuantProfile}
 use Rattle.lloyd_events.specs.declared.LloydRepairEvent.{LloydRepairEvent}
 use Rattle.lloyd_round.specs.Round.{Holding}
+use Rattle.lloyd_refine.specs.declared.Winner.the-variants.{StartKept}
 use Rattle.lloyd_refine.specs.declared.RefineState.{RefineState}
 use Rattle.lloyd_refine.specs.declared.Pause.{Pause}
-use Rattle.lloyd_refine.specs.Refine.{Job, sizeOf, dimOf, restartsOf, iterationsOf, refineChecks, Trained, roundsTo, trainedFrom, errorOf, Best, restartOf, restartsTo}
+use Rattle.lloyd_refine.specs.Refine.{Job, sizeOf, dimOf, restartsOf, iterationsOf, refineChecks, Trained, roundsTo, trainedFrom, errorOf, Best, restartsTo}
 use Rattle.lloyd_refine.specs.Standing.{Matches}
 use Rattle.lloyd_refine.specs.Pauses.{Over, Pausing}
 
@@ -28,7 +29,7 @@ firstState e = record {
   made = 0;
   «init_mse» = e;
   «best_mse» = e;
-  «best_restart» = 0;
+  «best_restart» = StartKept;
 }
 
 -- Between two rounds: earlier restarts came to b, the rounds of this one to t.
@@ -47,7 +48,7 @@ pub record AtRound (j : Job) (b : Best) (t : Trained) (s : RefineState) (work : 
   pub made : s .made ≡ 0
   pub init : s .«init_mse» ≡ errorOf j (j .initial)
   pub best : s .«best_mse» ≡ b .error
-  pub winner : s .«best_restart» ≡ restartOf (b .winner)
+  pub winner : s .«best_restart» ≡ b .winner
 
 -- ---- some refinement stands there
 pub record ReadyRound (p : FibQuantProfile) (samples : List Float) (slots : ℕ) (work : List Float) (ints : List ℕ)

@@ -20,6 +20,7 @@ use lloyd_refine::Pause;
 use lloyd_refine::RefineState;
 use lloyd_refine::RefineStep;
 use lloyd_refine::Refinement;
+use lloyd_refine::Winner;
 use profile::EmptyCellPolicy;
 use profile::FibQuantProfile;
 
@@ -186,7 +187,7 @@ fn start_refine(
         made: 0,
         init_mse: error,
         best_mse: error,
-        best_restart: 0,
+        best_restart: Winner::StartKept,
     };
     start_round(samples, work, ints, slots, profile, s)
 }
@@ -246,7 +247,7 @@ fn not_begun(r: Refusal) -> RefineStep
         made: 0,
         init_mse: 0.0,
         best_mse: 0.0,
-        best_restart: 0,
+        best_restart: Winner::StartKept,
     };
     lloyd_refine::stop(false, s, Refinement::Refused(r))
 }

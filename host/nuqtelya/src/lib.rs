@@ -57,7 +57,7 @@ pub use profile::{
     block_count, default_training_samples, wire_index_bits, Profile, FAIL_CLOSED, NORM_FP16, PROFILE_SCHEMA,
     ROTATION_ALGORITHM, SOURCE_SPHERICAL_BETA, SPLIT_HIGHEST_DISTORTION,
 };
-pub use refine::{refine, train, Report, Room, Trained, REPORT_SCHEMA};
+pub use refine::{refine, train, Report, Room, Trained, Winner, REPORT_SCHEMA};
 pub use refusal::Refusal;
 pub use search::{mean_error, nearest, Nearest};
 pub use update::{update, Event, UpdateTerms, MAX_EVENT_SLOTS};

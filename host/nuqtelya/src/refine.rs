@@ -3,6 +3,7 @@
 use crate::call::{call, call_checked, fits, profile_export, with_profile, Real, Whole};
 use crate::update::{Event, MAX_EVENT_SLOTS};
 use crate::{Profile, Refusal};
+use std::fmt;
 
 // init_mse and best_mse in `real`, the other members of the report in `report`; a refusal leaves them as they were.
 profile_export!(fib_refine(
@@ -20,7 +21,7 @@ profile_export!(fib_refine(
     counts_len: usize,
     events: *mut Event,
     events_len: usize,
-    report: &mut [u64; 7]
+    report: &mut [u64; 8]
 ));
 
 extern "C" {
@@ -33,6 +34,7 @@ extern "C" {
         training_samples_reported: u32,
         init_mse: f64,
         best_mse: f64,
+        restart_won: bool,
         best_restart: u32,
         empty_cells_repaired: u32,
         events_used: u32,
@@ -61,6 +63,61 @@ extern "C" {
 /// The schema that a report must name.
 pub const REPORT_SCHEMA: &[u8] = b"lloyd_report_v1";
 
+/// Which codebook a training returns.
+///
+/// ```
+/// use nuqtelya::{train, Profile, Winner};
+///
+/// let mut profile = Profile::paper_default(4, 2, 2, 7)?;
+/// profile.training_samples = 4;
+/// profile.restarts = 1;
+/// let samples = [1.0, 0.0, 3.0, 0.0, -1.0, 0.0, -3.0, 0.0];
+///
+/// let report = train(&profile, &[1.0, 0.0, -1.0, 0.0], &samples, &[], 0)?.report;
+/// assert_eq!(report.best_restart, Winner::Restart(0));
+/// assert_eq!(report.best_restart.to_string(), "restart 0 won");
+///
+/// // From the means of the samples on nothing gets better.
+/// let report = train(&profile, &[2.0, 0.0, -2.0, 0.0], &samples, &[], 0)?.report;
+/// assert_eq!(report.best_restart, Winner::StartKept);
+/// assert_eq!(report.best_restart.to_string(), "start kept");
+/// # Ok::<(), nuqtelya::Refusal>(())
+/// ```
+#[derive(Debug, Clone, Copy, PartialEq, Eq)]
+pub enum Winner {
+    /// The start: no restart's error is below its own.
+    StartKept,
+    /// The end of the restart with this number, the first of least error.
+    Restart(u32),
+}
+
+impl fmt::Display for Winner {
+    fn fmt(&self, f: &mut fmt::Formatter) -> fmt::Result {
+        match self {
+            Winner::StartKept => f.write_str("start kept"),
+            Winner::Restart(number) => write!(f, "restart {number} won"),
+        }
+    }
+}
+
+impl Winner {
+    // As the exports hand it over: whether a restart won, and its number.
+    fn from_members(won: u64, number: u64) -> Result<Winner, Refusal> {
+        match (won, number) {
+            (0, 0) => Ok(Winner::StartKept),
+            (1, number) => Ok(Winner::Restart(fits(number)?)),
+            _ => Err(Refusal::FOREIGN),
+        }
+    }
+
+    fn members(self) -> (bool, u32) {
+        match self {
+            Winner::StartKept => (false, 0),
+            Winner::Restart(number) => (true, number),
+        }
+    }
+}
+
 /// What a training found.
 #[derive(Debug, Clone, Copy, PartialEq)]
 pub struct Report {
@@ -71,8 +128,8 @@ pub struct Report {
     pub init_mse: f64,
     /// The least mean error, before the codewords were narrowed.
     pub best_mse: f64,
-    /// The restart whose end is returned; 0 also where nothing beat the start.
-    pub best_restart: u32,
+    /// Whose codebook is returned.
+    pub best_restart: Winner,
     pub empty_cells_repaired: u32,
     pub events_used: u32,
     pub seed: u64,
@@ -81,6 +138,7 @@ pub struct Report {
 impl Report {
     /// Whether a report of this schema fits the profile's settings and is sound in itself.
     pub fn validate(&self, schema: &[u8], profile: &Profile) -> Result<(), Refusal> {
+        let (restart_won, best_restart) = self.best_restart.members();
         call_checked(|whole, real| unsafe {
             fib_validate_report(
                 schema.as_ptr(),
@@ -90,7 +148,8 @@ impl Report {
                 self.training_samples,
                 self.init_mse,
                 self.best_mse,
-                self.best_restart,
+                restart_won,
+                best_restart,
                 self.empty_cells_repaired,
                 self.events_used,
                 self.seed,
@@ -171,7 +230,7 @@ pub fn refine(
     counts: &mut [u32],
     events: &mut [Event],
 ) -> Result<Report, Refusal> {
-    let mut report = [u64::MAX; 7];
+    let mut report = [u64::MAX; 8];
     let answer = call((0, 2), |whole, real| unsafe {
         with_profile!(fib_refine(
             profile;
@@ -194,7 +253,7 @@ pub fn refine(
             real
         ))
     });
-    if answer.is_err() && report != [u64::MAX; 7] {
+    if answer.is_err() && report != [u64::MAX; 8] {
         return Err(Refusal::FOREIGN);
     }
     let (_, [init_mse, best_mse]) = answer?;
@@ -204,10 +263,10 @@ pub fn refine(
         training_samples: fits(report[2])?,
         init_mse,
         best_mse,
-        best_restart: fits(report[3])?,
-        empty_cells_repaired: fits(report[4])?,
-        events_used: fits(report[5])?,
-        seed: report[6],
+        best_restart: Winner::from_members(report[3], report[4])?,
+        empty_cells_repaired: fits(report[5])?,
+        events_used: fits(report[6])?,
+        seed: report[7],
     })
 }
 

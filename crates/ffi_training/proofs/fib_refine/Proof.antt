@@ -97,7 +97,7 @@ abbrev ref-val : {X : Type 0} → RefT X → Val
 ref-val x = vptr (x .ptr .0) (x .ptr .1)
 
 abbrev stayed : Stays (fib.ended .signature .params) (fib.ended .kept)
-stayed = (stay-dropped (shrSliceOf (0 ∷ []) tt (plain (λ _. u8))) yes, (stay-dropped (plain (λ _. u32)) yes, (stay-dropped (plain (λ _. u32)) yes, (stay-dropped (plain (λ _. u32)) yes, (stay-dropped (plain (λ _. f64)) yes, (stay-dropped (plain (λ _. f64)) yes, (stay-dropped (plain (λ _. u8)) yes, (stay-dropped (plain (λ _. f64)) yes, (stay-dropped (plain (λ _. u8)) yes, (stay-dropped (plain (λ _. u64)) yes, (stay-dropped (shrSliceOf (1 ∷ []) tt (plain (λ _. u8))) yes, (stay-dropped (plain (λ _. u64)) yes, (stay-dropped (plain (λ _. u8)) yes, (stay-dropped (plain (λ _. u8)) yes, (stay-dropped (plain (λ _. u8)) yes, (stay-dropped (plain (λ _. u32)) yes, (stay-dropped (plain (λ _. u32)) yes, (stay-dropped (plain (λ _. u32)) yes, (stay-dropped (plain (λ _. u8)) yes, (stay-dropped (shrSliceOf (2 ∷ []) tt (plain (λ _. f64))) yes, (stay-dropped (shrSliceOf (3 ∷ []) tt (plain (λ _. f64))) yes, (stay-dropped (shrSliceOf (4 ∷ []) tt (plain (λ _. f64))) yes, (gave-slice (5 ∷ []) tt (plain (λ _. f32)), (gave-slice (6 ∷ []) tt (plain (λ _. f64)), (gave-slice (7 ∷ []) tt (plain (λ _. u32)), (gave-slice (8 ∷ []) tt (plain (λ _. E.the-row)), (gave-ref (9 ∷ []) tt (arrayOf (plain (λ _. u64)) 7), (gave-ref (10 ∷ []) tt (arrayOf (plain (λ _. u64)) 4), (gave-ref (11 ∷ []) tt (arrayOf (plain (λ _. f64)) 2), tt)))))))))))))))))))))))))))))
+stayed = (stay-dropped (shrSliceOf (0 ∷ []) tt (plain (λ _. u8))) yes, (stay-dropped (plain (λ _. u32)) yes, (stay-dropped (plain (λ _. u32)) yes, (stay-dropped (plain (λ _. u32)) yes, (stay-dropped (plain (λ _. f64)) yes, (stay-dropped (plain (λ _. f64)) yes, (stay-dropped (plain (λ _. u8)) yes, (stay-dropped (plain (λ _. f64)) yes, (stay-dropped (plain (λ _. u8)) yes, (stay-dropped (plain (λ _. u64)) yes, (stay-dropped (shrSliceOf (1 ∷ []) tt (plain (λ _. u8))) yes, (stay-dropped (plain (λ _. u64)) yes, (stay-dropped (plain (λ _. u8)) yes, (stay-dropped (plain (λ _. u8)) yes, (stay-dropped (plain (λ _. u8)) yes, (stay-dropped (plain (λ _. u32)) yes, (stay-dropped (plain (λ _. u32)) yes, (stay-dropped (plain (λ _. u32)) yes, (stay-dropped (plain (λ _. u8)) yes, (stay-dropped (shrSliceOf (2 ∷ []) tt (plain (λ _. f64))) yes, (stay-dropped (shrSliceOf (3 ∷ []) tt (plain (λ _. f64))) yes, (stay-dropped (shrSliceOf (4 ∷ []) tt (plain (λ _. f64))) yes, (gave-slice (5 ∷ []) tt (plain (λ _. f32)), (gave-slice (6 ∷ []) tt (plain (λ _. f64)), (gave-slice (7 ∷ []) tt (plain (λ _. u32)), (gave-slice (8 ∷ []) tt (plain (λ _. E.the-row)), (gave-ref (9 ∷ []) tt (arrayOf (plain (λ _. u64)) 8), (gave-ref (10 ∷ []) tt (arrayOf (plain (λ _. u64)) 4), (gave-ref (11 ∷ []) tt (arrayOf (plain (λ _. f64)) 2), tt)))))))))))))))))))))))))))))
 
 -- What the function is handed, as `refine_codebook` asks it: tokens and owned things of the texts ts, of the slices ss,
 -- of the events es and of the room rs, and numbers between them; P and Q are what is owned of the profile and of log2.
@@ -251,7 +251,7 @@ module _ {M : Type 1} (𝓤 : URA M) (H : Heap 𝓤) (A : Atoms 𝓤) (W : Given
   events = sem 𝓤 H A (MutSlice (named 8) (κs .1 .1 .1 .1 .1 .1 .1 .1 .0) E.the-row .own ev (slice-val ev ∷ [])) ∷ []
 
   abbrev room : List (SProp 𝓤)
-  room = sem 𝓤 H A (MutRef (named 9) (κs .1 .1 .1 .1 .1 .1 .1 .1 .1 .0) (Array u64 7) .own rep (ref-val rep ∷ [])) ∷ sem 𝓤 H A (MutRef (named 10) (κs .1 .1 .1 .1 .1 .1 .1 .1 .1 .1 .0) (Array u64 4) .own wh (ref-val wh ∷ [])) ∷ sem 𝓤 H A (MutRef (named 11) (κs .1 .1 .1 .1 .1 .1 .1 .1 .1 .1 .1 .0) (Array f64 2) .own re (ref-val re ∷ [])) ∷ []
+  room = sem 𝓤 H A (MutRef (named 9) (κs .1 .1 .1 .1 .1 .1 .1 .1 .1 .0) (Array u64 8) .own rep (ref-val rep ∷ [])) ∷ sem 𝓤 H A (MutRef (named 10) (κs .1 .1 .1 .1 .1 .1 .1 .1 .1 .1 .0) (Array u64 4) .own wh (ref-val wh ∷ [])) ∷ sem 𝓤 H A (MutRef (named 11) (κs .1 .1 .1 .1 .1 .1 .1 .1 .1 .1 .1 .0) (Array f64 2) .own re (ref-val re ∷ [])) ∷ []
 
   abbrev Rest : SProp 𝓤
   Rest = sep 𝓤 (alive 𝓤 H A put.signature (κs .1 .1 .1 .1 .1 .1 .1 .1 .1 .0, (κs .1 .1 .1 .1 .1 .1 .1 .1 .1 .1 .0, (κs .1 .1 .1 .1 .1 .1 .1 .1 .1 .1 .1 .0, tt))) (qs .1 .1 .1 .1 .1 .1 .1 .1 .1 .0, (qs .1 .1 .1 .1 .1 .1 .1 .1 .1 .1 .0, (qs .1 .1 .1 .1 .1 .1 .1 .1 .1 .1 .1 .0, tt)))) (all 𝓤 room)
@@ -328,7 +328,7 @@ module _ {M : Type 1} (𝓤 : URA M) (H : Heap 𝓤) (A : Atoms 𝓤) (W : Given
   fib-walks : Walks 𝓤 H A fib.ended stayed (WpFn 𝓤 H (𝓣 .C) (𝓣 .Λ) code.function) (fib.clauses 𝓤 H A mem run)
   fib-walks = walked 𝓤 H A fib.ended stayed (fib.clauses 𝓤 H A mem run) (WpFn 𝓤 H (𝓣 .C) (𝓣 .Λ) code.function)
       (λ κs. (slice-vals, (uint-vals w32, (uint-vals w32, (uint-vals w32, (float-vals binary64, (float-vals binary64, (uint-vals w8, (float-vals binary64, (uint-vals w8, (uint-vals w64, (slice-vals, (uint-vals w64, (uint-vals w8, (uint-vals w8, (uint-vals w8, (uint-vals w32, (uint-vals w32, (uint-vals w32, (uint-vals w8, (slice-vals, (slice-vals, (slice-vals, (slice-vals, (slice-vals, (slice-vals, (slice-vals, (ptr-vals, (ptr-vals, (ptr-vals, tt))))))))))))))))))))))))))))))
-      (λ κs. (shr-slice-tells (named 0) (κs .0) u8, (uint-tells w32, (uint-tells w32, (uint-tells w32, (float-tells binary64, (float-tells binary64, (uint-tells w8, (float-tells binary64, (uint-tells w8, (uint-tells w64, (shr-slice-tells (named 1) (κs .1 .0) u8, (uint-tells w64, (uint-tells w8, (uint-tells w8, (uint-tells w8, (uint-tells w32, (uint-tells w32, (uint-tells w32, (uint-tells w8, (shr-slice-tells (named 2) (κs .1 .1 .0) f64, (shr-slice-tells (named 3) (κs .1 .1 .1 .0) f64, (shr-slice-tells (named 4) (κs .1 .1 .1 .1 .0) f64, (mut-slice-tells (named 5) (κs .1 .1 .1 .1 .1 .0) f32, (mut-slice-tells (named 6) (κs .1 .1 .1 .1 .1 .1 .0) f64, (mut-slice-tells (named 7) (κs .1 .1 .1 .1 .1 .1 .1 .0) u32, (mut-slice-tells (named 8) (κs .1 .1 .1 .1 .1 .1 .1 .1 .0) E.the-row, (mut-tells (named 9) (κs .1 .1 .1 .1 .1 .1 .1 .1 .1 .0) (Array u64 7), (mut-tells (named 10) (κs .1 .1 .1 .1 .1 .1 .1 .1 .1 .1 .0) (Array u64 4), (mut-tells (named 11) (κs .1 .1 .1 .1 .1 .1 .1 .1 .1 .1 .1 .0) (Array f64 2), tt))))))))))))))))))))))))))))))
+      (λ κs. (shr-slice-tells (named 0) (κs .0) u8, (uint-tells w32, (uint-tells w32, (uint-tells w32, (float-tells binary64, (float-tells binary64, (uint-tells w8, (float-tells binary64, (uint-tells w8, (uint-tells w64, (shr-slice-tells (named 1) (κs .1 .0) u8, (uint-tells w64, (uint-tells w8, (uint-tells w8, (uint-tells w8, (uint-tells w32, (uint-tells w32, (uint-tells w32, (uint-tells w8, (shr-slice-tells (named 2) (κs .1 .1 .0) f64, (shr-slice-tells (named 3) (κs .1 .1 .1 .0) f64, (shr-slice-tells (named 4) (κs .1 .1 .1 .1 .0) f64, (mut-slice-tells (named 5) (κs .1 .1 .1 .1 .1 .0) f32, (mut-slice-tells (named 6) (κs .1 .1 .1 .1 .1 .1 .0) f64, (mut-slice-tells (named 7) (κs .1 .1 .1 .1 .1 .1 .1 .0) u32, (mut-slice-tells (named 8) (κs .1 .1 .1 .1 .1 .1 .1 .1 .0) E.the-row, (mut-tells (named 9) (κs .1 .1 .1 .1 .1 .1 .1 .1 .1 .0) (Array u64 8), (mut-tells (named 10) (κs .1 .1 .1 .1 .1 .1 .1 .1 .1 .1 .0) (Array u64 4), (mut-tells (named 11) (κs .1 .1 .1 .1 .1 .1 .1 .1 .1 .1 .1 .0) (Array f64 2), tt))))))))))))))))))))))))))))))
       (λ κs qs bounds a g are. via 𝓤 _ (fst∗ 𝓤 _ (emp 𝓤)) (walk 𝓤 H A W mem run 𝓣 met κs qs
       (a .0) (a .1 .0) (a .1 .1 .0) (a .1 .1 .1 .0) (a .1 .1 .1 .1 .0) (a .1 .1 .1 .1 .1 .0) (a .1 .1 .1 .1 .1 .1 .0) (a .1 .1 .1 .1 .1 .1 .1 .0) (a .1 .1 .1 .1 .1 .1 .1 .1 .0) (a .1 .1 .1 .1 .1 .1 .1 .1 .1 .0) (a .1 .1 .1 .1 .1 .1 .1 .1 .1 .1 .0) (a .1 .1 .1 .1 .1 .1 .1 .1 .1 .1 .1 .0) (a .1 .1 .1 .1 .1 .1 .1 .1 .1 .1 .1 .1 .0) (a .1 .1 .1 .1 .1 .1 .1 .1 .1 .1 .1 .1 .1 .0) (a .1 .1 .1 .1 .1 .1 .1 .1 .1 .1 .1 .1 .1 .1 .0) (a .1 .1 .1 .1 .1 .1 .1 .1 .1 .1 .1 .1 .1 .1 .1 .0) (a .1 .1 .1 .1 .1 .1 .1 .1 .1 .1 .1 .1 .1 .1 .1 .1 .0) (a .1 .1 .1 .1 .1 .1 .1 .1 .1 .1 .1 .1 .1 .1 .1 .1 .1 .0) (a .1 .1 .1 .1 .1 .1 .1 .1 .1 .1 .1 .1 .1 .1 .1 .1 .1 .1 .0) (a .1 .1 .1 .1 .1 .1 .1 .1 .1 .1 .1 .1 .1 .1 .1 .1 .1 .1 .1 .0) (a .1 .1 .1 .1 .1 .1 .1 .1 .1 .1 .1 .1 .1 .1 .1 .1 .1 .1 .1 .1 .0) (a .1 .1 .1 .1 .1 .1 .1 .1 .1 .1 .1 .1 .1 .1 .1 .1 .1 .1 .1 .1 .1 .0) (a .1 .1 .1 .1 .1 .1 .1 .1 .1 .1 .1 .1 .1 .1 .1 .1 .1 .1 .1 .1 .1 .1 .0) (a .1 .1 .1 .1 .1 .1 .1 .1 .1 .1 .1 .1 .1 .1 .1 .1 .1 .1 .1 .1 .1 .1 .1 .0) (a .1 .1 .1 .1 .1 .1 .1 .1 .1 .1 .1 .1 .1 .1 .1 .1 .1 .1 .1 .1 .1 .1 .1 .1 .0) (a .1 .1 .1 .1 .1 .1 .1 .1 .1 .1 .1 .1 .1 .1 .1 .1 .1 .1 .1 .1 .1 .1 .1 .1 .1 .0) (a .1 .1 .1 .1 .1 .1 .1 .1 .1 .1 .1 .1 .1 .1 .1 .1 .1 .1 .1 .1 .1 .1 .1 .1 .1 .1 .0) (a .1 .1 .1 .1 .1 .1 .1 .1 .1 .1 .1 .1 .1 .1 .1 .1 .1 .1 .1 .1 .1 .1 .1 .1 .1 .1 .1 .0) (a .1 .1 .1 .1 .1 .1 .1 .1 .1 .1 .1 .1 .1 .1 .1 .1 .1 .1 .1 .1 .1 .1 .1 .1 .1 .1 .1 .1 .0)
       (are .0 .0 .1) (are .1 .0 .1) (are .1 .1 .0 .1) (are .1 .1 .1 .0 .1) (are .1 .1 .1 .1 .0 .1) (are .1 .1 .1 .1 .1 .0 .1) (are .1 .1 .1 .1 .1 .1 .0 .1) (are .1 .1 .1 .1 .1 .1 .1 .0 .1) (are .1 .1 .1 .1 .1 .1 .1 .1 .0 .1) (are .1 .1 .1 .1 .1 .1 .1 .1 .1 .0 .1) (are .1 .1 .1 .1 .1 .1 .1 .1 .1 .1 .0 .0 .1) (are .1 .1 .1 .1 .1 .1 .1 .1 .1 .1 .1 .0 .1) (are .1 .1 .1 .1 .1 .1 .1 .1 .1 .1 .1 .1 .0 .1) (are .1 .1 .1 .1 .1 .1 .1 .1 .1 .1 .1 .1 .1 .0 .1) (are .1 .1 .1 .1 .1 .1 .1 .1 .1 .1 .1 .1 .1 .1 .0 .1) (are .1 .1 .1 .1 .1 .1 .1 .1 .1 .1 .1 .1 .1 .1 .1 .0 .1) (are .1 .1 .1 .1 .1 .1 .1 .1 .1 .1 .1 .1 .1 .1 .1 .1 .0 .1) (are .1 .1 .1 .1 .1 .1 .1 .1 .1 .1 .1 .1 .1 .1 .1 .1 .1 .0 .1) (are .1 .1 .1 .1 .1 .1 .1 .1 .1 .1 .1 .1 .1 .1 .1 .1 .1 .1 .0 .1) (are .1 .1 .1 .1 .1 .1 .1 .1 .1 .1 .1 .1 .1 .1 .1 .1 .1 .1 .1 .0 .0 .1) (are .1 .1 .1 .1 .1 .1 .1 .1 .1 .1 .1 .1 .1 .1 .1 .1 .1 .1 .1 .1 .0 .0 .1) (are .1 .1 .1 .1 .1 .1 .1 .1 .1 .1 .1 .1 .1 .1 .1 .1 .1 .1 .1 .1 .1 .0 .0 .1) (are .1 .1 .1 .1 .1 .1 .1 .1 .1 .1 .1 .1 .1 .1 .1 .1 .1 .1 .1 .1 .1 .1 .0 .0 .1) (are .1 .1 .1 .1 .1 .1 .1 .1 .1 .1 .1 .1 .1 .1 .1 .1 .1 .1 .1 .1 .1 .1 .1 .0 .0 .1) (are .1 .1 .1 .1 .1 .1 .1 .1 .1 .1 .1 .1 .1 .1 .1 .1 .1 .1 .1 .1 .1 .1 .1 .1 .0 .0 .1) (are .1 .1 .1 .1 .1 .1 .1 .1 .1 .1 .1 .1 .1 .1 .1 .1 .1 .1 .1 .1 .1 .1 .1 .1 .1 .0 .0 .1)))
@@ -336,7 +336,7 @@ module _ {M : Type 1} (𝓤 : URA M) (H : Heap 𝓤) (A : Atoms 𝓤) (W : Given
   fib-meets : Meets 𝓤 H A fib.signature (WpFn 𝓤 H (𝓣 .C) (𝓣 .Λ) code.function) (fib.spec 𝓤 H A mem run)
   fib-meets =
       walk-meets 𝓤 H A fib.ended stayed W
-      (goes-dropped 𝓤 H A W 12 (shrSliceOf (0 ∷ []) tt (plain (λ _. u8))) yes (λ κs x f. refl), (goes-dropped 𝓤 H A W 12 (plain (λ _. u32)) yes (λ κs x f. refl), (goes-dropped 𝓤 H A W 12 (plain (λ _. u32)) yes (λ κs x f. refl), (goes-dropped 𝓤 H A W 12 (plain (λ _. u32)) yes (λ κs x f. refl), (goes-dropped 𝓤 H A W 12 (plain (λ _. f64)) yes (λ κs x f. refl), (goes-dropped 𝓤 H A W 12 (plain (λ _. f64)) yes (λ κs x f. refl), (goes-dropped 𝓤 H A W 12 (plain (λ _. u8)) yes (λ κs x f. refl), (goes-dropped 𝓤 H A W 12 (plain (λ _. f64)) yes (λ κs x f. refl), (goes-dropped 𝓤 H A W 12 (plain (λ _. u8)) yes (λ κs x f. refl), (goes-dropped 𝓤 H A W 12 (plain (λ _. u64)) yes (λ κs x f. refl), (goes-dropped 𝓤 H A W 12 (shrSliceOf (1 ∷ []) tt (plain (λ _. u8))) yes (λ κs x f. refl), (goes-dropped 𝓤 H A W 12 (plain (λ _. u64)) yes (λ κs x f. refl), (goes-dropped 𝓤 H A W 12 (plain (λ _. u8)) yes (λ κs x f. refl), (goes-dropped 𝓤 H A W 12 (plain (λ _. u8)) yes (λ κs x f. refl), (goes-dropped 𝓤 H A W 12 (plain (λ _. u8)) yes (λ κs x f. refl), (goes-dropped 𝓤 H A W 12 (plain (λ _. u32)) yes (λ κs x f. refl), (goes-dropped 𝓤 H A W 12 (plain (λ _. u32)) yes (λ κs x f. refl), (goes-dropped 𝓤 H A W 12 (plain (λ _. u32)) yes (λ κs x f. refl), (goes-dropped 𝓤 H A W 12 (plain (λ _. u8)) yes (λ κs x f. refl), (goes-dropped 𝓤 H A W 12 (shrSliceOf (2 ∷ []) tt (plain (λ _. f64))) yes (λ κs x f. refl), (goes-dropped 𝓤 H A W 12 (shrSliceOf (3 ∷ []) tt (plain (λ _. f64))) yes (λ κs x f. refl), (goes-dropped 𝓤 H A W 12 (shrSliceOf (4 ∷ []) tt (plain (λ _. f64))) yes (λ κs x f. refl), (goes-gave-slice 𝓤 H A W 12 5 tt (plain (λ _. f32)), (goes-gave-slice 𝓤 H A W 12 6 tt (plain (λ _. f64)), (goes-gave-slice 𝓤 H A W 12 7 tt (plain (λ _. u32)), (goes-gave-slice 𝓤 H A W 12 8 tt (plain (λ _. E.the-row)), (goes-gave-ref 𝓤 H A W 12 9 tt (arrayOf (plain (λ _. u64)) 7), (goes-gave-ref 𝓤 H A W 12 10 tt (arrayOf (plain (λ _. u64)) 4), (goes-gave-ref 𝓤 H A W 12 11 tt (arrayOf (plain (λ _. f64)) 2), tt)))))))))))))))))))))))))))))
+      (goes-dropped 𝓤 H A W 12 (shrSliceOf (0 ∷ []) tt (plain (λ _. u8))) yes (λ κs x f. refl), (goes-dropped 𝓤 H A W 12 (plain (λ _. u32)) yes (λ κs x f. refl), (goes-dropped 𝓤 H A W 12 (plain (λ _. u32)) yes (λ κs x f. refl), (goes-dropped 𝓤 H A W 12 (plain (λ _. u32)) yes (λ κs x f. refl), (goes-dropped 𝓤 H A W 12 (plain (λ _. f64)) yes (λ κs x f. refl), (goes-dropped 𝓤 H A W 12 (plain (λ _. f64)) yes (λ κs x f. refl), (goes-dropped 𝓤 H A W 12 (plain (λ _. u8)) yes (λ κs x f. refl), (goes-dropped 𝓤 H A W 12 (plain (λ _. f64)) yes (λ κs x f. refl), (goes-dropped 𝓤 H A W 12 (plain (λ _. u8)) yes (λ κs x f. refl), (goes-dropped 𝓤 H A W 12 (plain (λ _. u64)) yes (λ κs x f. refl), (goes-dropped 𝓤 H A W 12 (shrSliceOf (1 ∷ []) tt (plain (λ _. u8))) yes (λ κs x f. refl), (goes-dropped 𝓤 H A W 12 (plain (λ _. u64)) yes (λ κs x f. refl), (goes-dropped 𝓤 H A W 12 (plain (λ _. u8)) yes (λ κs x f. refl), (goes-dropped 𝓤 H A W 12 (plain (λ _. u8)) yes (λ κs x f. refl), (goes-dropped 𝓤 H A W 12 (plain (λ _. u8)) yes (λ κs x f. refl), (goes-dropped 𝓤 H A W 12 (plain (λ _. u32)) yes (λ κs x f. refl), (goes-dropped 𝓤 H A W 12 (plain (λ _. u32)) yes (λ κs x f. refl), (goes-dropped 𝓤 H A W 12 (plain (λ _. u32)) yes (λ κs x f. refl), (goes-dropped 𝓤 H A W 12 (plain (λ _. u8)) yes (λ κs x f. refl), (goes-dropped 𝓤 H A W 12 (shrSliceOf (2 ∷ []) tt (plain (λ _. f64))) yes (λ κs x f. refl), (goes-dropped 𝓤 H A W 12 (shrSliceOf (3 ∷ []) tt (plain (λ _. f64))) yes (λ κs x f. refl), (goes-dropped 𝓤 H A W 12 (shrSliceOf (4 ∷ []) tt (plain (λ _. f64))) yes (λ κs x f. refl), (goes-gave-slice 𝓤 H A W 12 5 tt (plain (λ _. f32)), (goes-gave-slice 𝓤 H A W 12 6 tt (plain (λ _. f64)), (goes-gave-slice 𝓤 H A W 12 7 tt (plain (λ _. u32)), (goes-gave-slice 𝓤 H A W 12 8 tt (plain (λ _. E.the-row)), (goes-gave-ref 𝓤 H A W 12 9 tt (arrayOf (plain (λ _. u64)) 8), (goes-gave-ref 𝓤 H A W 12 10 tt (arrayOf (plain (λ _. u64)) 4), (goes-gave-ref 𝓤 H A W 12 11 tt (arrayOf (plain (λ _. f64)) 2), tt)))))))))))))))))))))))))))))
       (fib.clauses 𝓤 H A mem run) (WpFn 𝓤 H (𝓣 .C) (𝓣 .Λ) code.function) (WpFn-mono 𝓤 H (W .laws) 𝓣 code.function) fib-walks
 
 pub fib-refine-spec : {M : Type 1} → stated.statement M

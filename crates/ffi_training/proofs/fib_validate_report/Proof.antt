@@ -8,6 +8,9 @@ use Rattle.ffi_training.proofs.fib_validate_report.Tie as tie
 profile-from-requires : tie.Need-profile-from-requires
 profile-from-requires c κs = search needs
 
+winner-from-requires : tie.Need-winner-from-requires
+winner-from-requires c κs = search needs
+
 validate-against-profile-requires : tie.Need-validate-against-profile-requires
 validate-against-profile-requires c κs = search needs
 
@@ -17,9 +20,9 @@ put-checked-requires c κs = search needs
 returns : tie.Need-returns
 returns c =
     let v = c .before .before .before in
-    c .put-checked .ensures ∙ ap (crossed none) (rw (v .before .profile-from .ensures) at (v .validate-against-profile .ensures))
+    c .put-checked .ensures ∙ ap (crossed none) (rw (v .before .before .profile-from .ensures, v .before .winner-from .ensures) at (v .validate-against-profile .ensures))
 
 pub fib-validate-report-spec : {M : Type 1} → statement M
 fib-validate-report-spec =
     tie.close
-    (tie.spec profile-from-requires validate-against-profile-requires put-checked-requires returns)
+    (tie.spec profile-from-requires winner-from-requires validate-against-profile-requires put-checked-requires returns)

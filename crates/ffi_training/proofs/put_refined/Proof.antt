@@ -28,9 +28,6 @@ kept r old = by-refusal {B = ℕ} (λ o p. reportAfter o old ≡ old) (λ n vs. 
 enum-known-answer : tie.Need-enum-known-answer
 enum-known-answer c = search needs
 
-cast-t8 : tie.Need-cast-t8
-cast-t8 c = search needs
-
 cast-t9 : tie.Need-cast-t9
 cast-t9 c = search needs
 
@@ -40,11 +37,17 @@ cast-t10 c = search needs
 cast-t11 : tie.Need-cast-t11
 cast-t11 c = search needs
 
-cast-t12 : tie.Need-cast-t12
-cast-t12 c = search needs
+won-requires : tie.Need-won-requires
+won-requires c κs = search needs
 
-cast-t13 : tie.Need-cast-t13
-cast-t13 c = search needs
+number-requires : tie.Need-number-requires
+number-requires c κs = search needs
+
+cast-t14 : tie.Need-cast-t14
+cast-t14 c = search needs
+
+cast-t15 : tie.Need-cast-t15
+cast-t15 c = search needs
 
 put-requires : tie.Need-put-requires
 put-requires c κs = search needs
@@ -58,8 +61,8 @@ put-refusal-requires c κs = search needs
 returns : tie.Need-returns
 unfolding wholeValues realValues membersOf ofBits
 returns c =
-    let e = sym (c .before .before .before .before .before .before .before .before .before .before .before .answer .given .1) in
-    (c .put .ensures ∙ ap across e, ap (after (c .before .before .before .before .before .before .before .before .before .before .before .before .before .args .report .now)) e)
+    let e = sym (c .before .before .before .before .before .before .before .before .before .before .before .before .answer .given .1) in
+    (c .put .ensures ∙ ap across e, rw (c .before .before .before .before .before .before .before .won .ensures, c .before .before .before .before .before .before .number .ensures) (ap (after (c .before .before .before .before .before .before .before .before .before .before .before .before .before .before .args .report .now)) e))
 
 returns-2 : tie.Need-returns-2
 returns-2 c =
@@ -72,12 +75,13 @@ put-refined-spec =
     tie.close
     (tie.spec
     enum-known-answer
-    cast-t8
     cast-t9
     cast-t10
     cast-t11
-    cast-t12
-    cast-t13
+    won-requires
+    number-requires
+    cast-t14
+    cast-t15
     put-requires
     enum-known-answer-2
     put-refusal-requires

@@ -36,20 +36,26 @@ mean-error-requires c κs = (c .before .before .before .pre .0, current (c .befo
 copy-part-requires : tie.Need-copy-part-requires
 copy-part-requires c κs = (omega (arith, c .before .before .before .before .before .before .before .pre .3), omega (arith, c .before .before .before .before .before .before .before .pre .3), inr (omega arith))
 
+with-best-requires : tie.Need-with-best-requires
+with-best-requires c κs = search needs
+
 same-length : tie.Need-same-length
 same-length c = search needs
 
 returns : tie.Need-returns
 returns c =
-    let e : lt (errorIn (c .before .before .before .before .before .before .before .before .before .before)) (c .before .before .before .before .before .before .before .before .before .before .args .s .«best_mse») ≡ true = ap (λ (z : Float). lt z (c .before .before .before .before .before .before .before .before .before .before .args .s .«best_mse»)) (sym (c .before .before .before .before .before .before .mean-error .ensures)) ∙ c .before .before .before .before .if1 .taken in
-    (rw e (c .before .before .copy-part .ensures), rw (e, c .before .before .before .before .before .before .mean-error .ensures))
+    let s = c .before .before .before .before .before .before .before .before .before .before .before in
+    let m = c .before .before .before .before .before .before .before .mean-error .ensures in
+    let e : lt (errorIn s) (s .args .s .«best_mse») ≡ true = ap (λ (z : Float). lt z (s .args .s .«best_mse»)) (sym m) ∙ c .before .before .before .before .before .if1 .taken in
+    (rw e (c .before .before .before .copy-part .ensures), rw e (rw m at (c .with-best .ensures)))
 
 same-length-2 : tie.Need-same-length-2
 same-length-2 c = search needs
 
 returns-2 : tie.Need-returns-2
 returns-2 c =
-    let e : lt (errorIn (c .before .before .before .before .before .before)) (c .before .before .before .before .before .before .args .s .«best_mse») ≡ false = ap (λ (z : Float). lt z (c .before .before .before .before .before .before .args .s .«best_mse»)) (sym (c .before .before .mean-error .ensures)) ∙ c .if1 .left in
+    let s = c .before .before .before .before .before .before in
+    let e : lt (errorIn s) (s .args .s .«best_mse») ≡ false = ap (λ (z : Float). lt z (s .args .s .«best_mse»)) (sym (c .before .before .mean-error .ensures)) ∙ c .if1 .left in
     (rw e, rw e)
 
 pub keep-better-spec : {M : Type 1} → statement M
@@ -61,6 +67,7 @@ keep-better-spec =
     slice-aggregate-mean-error
     mean-error-requires
     copy-part-requires
+    with-best-requires
     same-length
     returns
     same-length-2
