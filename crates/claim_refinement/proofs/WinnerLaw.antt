@@ -10,7 +10,7 @@ use Rattle.ieee.proofs.Order.{lt-irr}
 use Rattle.lloyd_refine.specs.declared.Winner.{Winner}
 use Rattle.lloyd_refine.specs.declared.Winner.the-variants.{StartKept, Restart}
 use Rattle.lloyd_refine.specs.Refine.{Job, restartsOf}
-use Rattle.claim_refinement.specs.Refinement.{Course, placeOf, errorAt, FirstLeast}
+use Rattle.claim_refinement.specs.Refinement.{Course, placeOf, errorAt, FirstOfLeast}
 
 module _ (j : Job) (c : Course) where
   -- w is the first candidate of least error
@@ -38,7 +38,7 @@ module _ (j : Job) (c : Course) where
       absurd (T-not (lt (errorAt j c 0) (errorAt j c 0)) (lt-irr (errorAt j c 0)) l)
 
   -- ---- a restart
-  won-least : (r : ℕ) → Chosen (Restart r) → FirstLeast j c r
+  won-least : (r : ℕ) → Chosen (Restart r) → FirstOfLeast j c r
   won-least r h = record {
     below = omega (arith, h .one-of);
     start-more = h .earlier-more 0 (zero-lt-suc r);
@@ -46,10 +46,10 @@ module _ (j : Job) (c : Course) where
     earlier-more = λ q l. h .earlier-more (suc q) (omega arith);
   }
 
-  pub won-first : (w : Winner) → Chosen w → (r : ℕ) → w ≡ Restart r → FirstLeast j c r
+  pub won-first : (w : Winner) → Chosen w → (r : ℕ) → w ≡ Restart r → FirstOfLeast j c r
   won-first w h r e = won-least r (subst Chosen e h)
 
-  pub first-won : (w : Winner) → Chosen w → (r : ℕ) → FirstLeast j c r → w ≡ Restart r
+  pub first-won : (w : Winner) → Chosen w → (r : ℕ) → FirstOfLeast j c r → w ≡ Restart r
   first-won StartKept h r f =
       absurd (T-not (lt (errorAt j c (suc r)) (errorAt j c 0)) (h .none-less (suc r) (omega (arith, f .below))) (f .start-more))
   first-won (Restart q) h r f =

@@ -67,6 +67,7 @@ abbrev pub candidate : Job → Course → ℕ → List Float
 candidate j c zero = j .initial
 candidate j c (suc r) = c .stand r (iterationsOf j) .codebook
 
+-- the place of the winner among them
 abbrev pub placeOf : Winner → ℕ
 placeOf StartKept = 0
 placeOf (Restart r) = suc r
@@ -75,8 +76,8 @@ placeOf (Restart r) = suc r
 abbrev pub errorAt : Job → Course → ℕ → Float
 errorAt j c p = errorOf j (candidate j c p)
 
--- restart r is the first with the least error of all restarts, and has beaten the start
-pub record FirstLeast (j : Job) (c : Course) (r : ℕ) : Type 0 where
+-- of all restarts r is the first of least error, and that is below the start's
+pub record FirstOfLeast (j : Job) (c : Course) (r : ℕ) : Type 0 where
   pub below : r < restartsOf j
   pub start-more : T (lt (errorAt j c (suc r)) (errorAt j c 0))
   pub none-less : (q : ℕ) → q < restartsOf j → T (not (lt (errorAt j c (suc q)) (errorAt j c (suc r))))
@@ -84,20 +85,21 @@ pub record FirstLeast (j : Job) (c : Course) (r : ℕ) : Type 0 where
 
 -- of the finite errors of the candidates the least is returned, with its codebook: every
 -- other has no less, every earlier one more; and the report that the caller reads says which
-pub record Wins (j : Job) (c : Course) (returned : List Float) (r : LloydReport) : Type 0 where
-  pub one-of : placeOf (r .«best_restart») < suc (restartsOf j)
-  pub codebook : returned ≡ candidate j c (placeOf (r .«best_restart»))
-  pub error : r .«best_mse» ≡ errorOf j returned
-  pub start-error : r .«init_mse» ≡ errorOf j (j .initial)
+pub record Wins (j : Job) (c : Course) (returned : List Float) (report : LloydReport) : Type 0 where
+  pub one-of : placeOf (report .«best_restart») < suc (restartsOf j)
+  pub codebook : returned ≡ candidate j c (placeOf (report .«best_restart»))
+  pub error : report .«best_mse» ≡ errorOf j returned
+  pub start-error : report .«init_mse» ≡ errorOf j (j .initial)
   pub finite-errors : (p : ℕ) → p < suc (restartsOf j) → T (finite (errorAt j c p))
-  pub none-less : (p : ℕ) → p < suc (restartsOf j) → T (not (lt (errorAt j c p) (r .«best_mse»)))
-  pub earlier-more : (p : ℕ) → p < placeOf (r .«best_restart») → T (lt (r .«best_mse») (errorAt j c p))
-  -- the start was kept exactly where no restart's error is below its own, and the two errors tell
-  pub start-kept : (r .«best_restart» ≡ StartKept)
-      ↔ ((q : ℕ) → q < restartsOf j → T (not (lt (errorAt j c (suc q)) (r .«init_mse»))))
-  pub errors-tell : (r .«best_restart» ≡ StartKept) ↔ (r .«best_mse» ≡ r .«init_mse»)
-  -- restart q won exactly where it is the first of least error
-  pub restart-won : (q : ℕ) → (r .«best_restart» ≡ Restart q) ↔ FirstLeast j c q
+  pub none-less : (p : ℕ) → p < suc (restartsOf j) → T (not (lt (errorAt j c p) (report .«best_mse»)))
+  pub earlier-more : (p : ℕ) → p < placeOf (report .«best_restart») → T (lt (report .«best_mse») (errorAt j c p))
+  -- document 02's K6: the start was kept exactly where no restart's error is below its own
+  pub start-kept : (report .«best_restart» ≡ StartKept)
+      ↔ ((q : ℕ) → q < restartsOf j → T (not (lt (errorAt j c (suc q)) (report .«init_mse»))))
+  -- the two errors tell it too: they are equal exactly there
+  pub errors-tell : (report .«best_restart» ≡ StartKept) ↔ (report .«best_mse» ≡ report .«init_mse»)
+  -- restart q won exactly where it is the first of least error, below the start's
+  pub restart-won : (q : ℕ) → (report .«best_restart» ≡ Restart q) ↔ FirstOfLeast j c q
 
 -- ---- how far a refinement comes
 -- t stands before round i of restart r, or at the restart's end where i is I: the earlier restarts and the earlier

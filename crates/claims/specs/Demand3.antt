@@ -27,8 +27,9 @@ pub record Demand3 : Type 0 where
   pub rules : (call : Call) → updateChecks call ≡ completed tt → Rule call
   -- An accepted refinement returns the codebook, and the error, of least mean error,
   -- measured before narrowing, among its start and its restarts' ends: every other
-  -- has no less, every earlier one more. The rounds of each restart are a history,
-  -- also those that a refused refinement had completed.
+  -- has no less, every earlier one more; its report says whether the start was kept,
+  -- or which restart won. The rounds of each restart are a history, also those that
+  -- a refused refinement had completed.
   pub refinements : (job : Job) → AnyRefinement job
   -- Every encoded block gets the first codeword that none is strictly
   -- nearer than, by the rounded distance; said of the frame's bytes.

@@ -1,8 +1,9 @@
 -- What an update is told as the host hands it in, and a refinement's report as it hands it in and gets it back.
 -- Definitions only.
 use Prim.Native.Nat.{ℕ}
-use mathlib.Core.Bool.{Bool, true, false}
+use mathlib.Core.Bool.{cond}
 use mathlib.Core.List.{List, [], _∷_}
+use lib.Dec.{eqb}
 use lib.Ieee.{Float}
 use Rattle.error.specs.Numbers.{Value, real, Outcome, completed, refused}
 use Rattle.lloyd_update.specs.declared.UpdateTerms.{UpdateTerms}
@@ -21,19 +22,20 @@ termsFrom n k policyNumber restart iteration = record {
   iteration = iteration;
 }
 
--- which codebook won: whether a restart did, and its number, 0 where the start was kept
+-- whether a restart won
 abbrev pub wonOf : Winner → ℕ
 wonOf StartKept = 0
 wonOf (Restart r) = 1
 
+-- its number, and 0 where the start was kept, as the Rust's best_restart has it
 abbrev pub numberOf : Winner → ℕ
 numberOf StartKept = 0
 numberOf (Restart r) = r
 
--- and back: the number is not read where the start was kept
-abbrev pub winnerFrom : (won : Bool) (number : ℕ) → Winner
-winnerFrom false number = StartKept
-winnerFrom true number = Restart number
+-- the winner of these two: the number is not read where the start was kept, and what is neither 0 nor 1 is a restart,
+-- which can be refused
+abbrev pub winnerFrom : (won number : ℕ) → Winner
+winnerFrom won number = cond (eqb won 0) StartKept (Restart number)
 
 -- the report of these members
 abbrev pub reportFrom : (restarts iterations samples : ℕ) (initial best : Float) (winner : Winner)

@@ -83,7 +83,7 @@ pub extern "C" fn fib_update(
     put_updated(answer, whole, real)
 }
 
-// Which codebook won: whether a restart did, and its number, 0 where the start was kept.
+// Whether a restart won: 1, or 0 where the start was kept.
 fn won(winner: Winner) -> u64
     ensures { λ r. ⌜ r ≡ wonOf winner ⌝ }
 {
@@ -93,6 +93,7 @@ fn won(winner: Winner) -> u64
     }
 }
 
+// The number of the restart that won, 0 where the start was kept.
 fn number(winner: Winner) -> u64
     ensures { λ r. ⌜ r ≡ numberOf winner ⌝ }
 {
@@ -102,14 +103,14 @@ fn number(winner: Winner) -> u64
     }
 }
 
-// And back: the number is not read where the start was kept.
-fn winner_from(restart_won: bool, restart: u32) -> Winner
-    ensures { λ r. ⌜ r ≡ winnerFrom «restart_won» restart ⌝ }
+// The winner of these two.
+fn winner_from(won: u8, number: u32) -> Winner
+    ensures { λ r. ⌜ r ≡ winnerFrom won number ⌝ }
 {
-    if restart_won {
-        return Winner::Restart(restart);
+    if won == 0 {
+        return Winner::StartKept;
     }
-    Winner::StartKept
+    Winner::Restart(number)
 }
 
 // The answer of a refinement: its two errors in `real`, the report's
@@ -238,7 +239,7 @@ pub extern "C" fn fib_validate_report(
     training_samples_reported: u32,
     init_mse: f64,
     best_mse: f64,
-    restart_won: bool,
+    restart_won: u8,
     best_restart: u32,
     empty_cells_repaired: u32,
     events_used: u32,

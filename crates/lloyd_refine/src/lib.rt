@@ -425,7 +425,7 @@ fn same_settings(report: LloydReport, profile: FibQuantProfile) -> bool
     is_below(winner, profile.lloyd_restarts)
 }
 
-// A report against its profile: its schema and settings, its errors, its counts.
+// A report against its profile: its schema, settings and winner, its errors, its counts.
 pub fn validate_against_profile(
     report: LloydReport,
     schema: &[u8],

@@ -160,6 +160,22 @@ fn advance(
     pause.step
 }
 
+// Restart 0 and its round 0, where the initial codebook's error is this.
+fn first_state(error: f64) -> RefineState
+    ensures { λ r. ⌜ r ≡ firstState error ⌝ }
+{
+    RefineState {
+        restart: 0,
+        iteration: 0,
+        next: 0,
+        before: 0,
+        made: 0,
+        init_mse: error,
+        best_mse: error,
+        best_restart: Winner::StartKept,
+    }
+}
+
 // The first round, once the checks are passed: restart 0 starts from the initial codebook, which is the best so far.
 fn start_refine(
     initial: &[f64],
@@ -179,17 +195,7 @@ fn start_refine(
     lloyd_restart::copy_in(initial, &mut *work, 0);
     lloyd_restart::copy_in(initial, &mut *work, n * k);
     let error = lloyd_search::mean_error(initial, n, k, samples);
-    let s = RefineState {
-        restart: 0,
-        iteration: 0,
-        next: 0,
-        before: 0,
-        made: 0,
-        init_mse: error,
-        best_mse: error,
-        best_restart: Winner::StartKept,
-    };
-    start_round(samples, work, ints, slots, profile, s)
+    start_round(samples, work, ints, slots, profile, first_state(error))
 }
 
 // The checks, the initial codebook, and the first repair. Once it has begun, what stands in the work beside its
@@ -239,17 +245,7 @@ fn not_begun(r: Refusal) -> RefineStep
     ensures { λ s. ⌜ (s .going ≡ false) × (s .begun ≡ false) × (s .answer ≡ Refinement.Refused r)
         × (s .event ≡ zeroEvent) × (s .state ≡ firstState plusZero) ⌝ }
 {
-    let s = RefineState {
-        restart: 0,
-        iteration: 0,
-        next: 0,
-        before: 0,
-        made: 0,
-        init_mse: 0.0,
-        best_mse: 0.0,
-        best_restart: Winner::StartKept,
-    };
-    lloyd_refine::stop(false, s, Refinement::Refused(r))
+    lloyd_refine::stop(false, first_state(0.0), Refinement::Refused(r))
 }
 
 // The refinement goes on after the repair that s made, whose event is written by now. What stands in the work beside

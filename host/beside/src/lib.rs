@@ -1,5 +1,6 @@
 //! The proved library's answers and types beside the oracle's.
 
+use nuqtelya::Winner;
 use oracle::codec::probe::Frame;
 use oracle::profile::probe::{Profile, ROTATION_ALGORITHM, SCHEMA};
 use oracle::{lloyd, Answer, Value};
@@ -86,7 +87,8 @@ pub fn event(event: &lloyd::probe::Event) -> nuqtelya::Event {
     }
 }
 
-/// A published report as the library's, which holds the number of its events.
+/// A published report as the library's, which holds the number of its events. The published 0 may be a start that was
+/// kept: a restart wins only with a smaller error.
 pub fn report(report: &lloyd::probe::Report) -> nuqtelya::Report {
     nuqtelya::Report {
         restarts: report.restarts,
@@ -94,7 +96,10 @@ pub fn report(report: &lloyd::probe::Report) -> nuqtelya::Report {
         training_samples: report.training_samples,
         init_mse: report.init_mse,
         best_mse: report.best_mse,
-        best_restart: report.best_restart,
+        best_restart: match report.best_restart {
+            0 if report.best_mse >= report.init_mse => Winner::StartKept,
+            number => Winner::Restart(number),
+        },
         empty_cells_repaired: report.empty_cells_repaired,
         events_used: report.repair_events.len() as u32,
         seed: report.seed,

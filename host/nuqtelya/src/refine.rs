@@ -34,7 +34,7 @@ extern "C" {
         training_samples_reported: u32,
         init_mse: f64,
         best_mse: f64,
-        restart_won: bool,
+        restart_won: u8,
         best_restart: u32,
         empty_cells_repaired: u32,
         events_used: u32,
@@ -110,10 +110,10 @@ impl Winner {
         }
     }
 
-    fn members(self) -> (bool, u32) {
+    fn members(self) -> (u8, u32) {
         match self {
-            Winner::StartKept => (false, 0),
-            Winner::Restart(number) => (true, number),
+            Winner::StartKept => (0, 0),
+            Winner::Restart(number) => (1, number),
         }
     }
 }

@@ -83,7 +83,7 @@ const FRAME_SITES: [&str; 5] =
     ["under 11 bytes", "wrong magic", "unknown version", "norm cut off", "wrong length of the indices"];
 const PACKED_SITES: [&str; 3] = ["width not 1 to 32", "wrong length", "padding bit set"];
 const REPORT_SITES: [&str; 3] =
-    ["schema or settings disagree with the profile", "an error is not finite", "repairs and events disagree"];
+    ["schema, settings or winner disagree with the profile", "an error is not finite", "repairs and events disagree"];
 
 /// The name at a place that counts from 1.
 fn name<'a>(names: &[&'a str], place: u64) -> &'a str {

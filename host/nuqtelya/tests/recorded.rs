@@ -6,7 +6,7 @@
 mod form;
 
 use form::{number, File, Form, Refused, Trained, Updated};
-use nuqtelya::{Coder, Event, Profile, Refusal, Report, UpdateTerms};
+use nuqtelya::{Coder, Event, Profile, Refusal, Report, UpdateTerms, Winner};
 
 const BYTES: &[u8] = include_bytes!("recorded.bin");
 
@@ -177,6 +177,7 @@ fn event(event: &Event) -> form::Event {
     }
 }
 
+/// The published report says 0 where the start was kept.
 fn report(report: Report) -> form::Report {
     form::Report {
         restarts: report.restarts,
@@ -184,7 +185,10 @@ fn report(report: Report) -> form::Report {
         training_samples: report.training_samples,
         init_mse: report.init_mse,
         best_mse: report.best_mse,
-        best_restart: report.best_restart,
+        best_restart: match report.best_restart {
+            Winner::StartKept => 0,
+            Winner::Restart(number) => number,
+        },
         empty_cells_repaired: report.empty_cells_repaired,
         events_used: report.events_used,
         seed: report.seed,

@@ -4,12 +4,13 @@ use crate::coding::check_values;
 use crate::failure::{Done, Failure};
 use crate::files::{Input, Output};
 use crate::rotation::{self, Rule};
-use nuqtelya::{Event, Profile, Report, MAX_EVENT_SLOTS, PROFILE_SCHEMA, REPORT_SCHEMA, ROTATION_ALGORITHM};
+use nuqtelya::{Event, Profile, Report, Winner, MAX_EVENT_SLOTS, PROFILE_SCHEMA, REPORT_SCHEMA, ROTATION_ALGORITHM};
 use std::fmt::Display;
 use std::path::Path;
 
 pub const MAGIC: [u8; 8] = *b"NUQTBOOK";
-const VERSION: u32 = 1;
+/// Version 1 has no mark of the start that was kept, and is still read.
+const VERSION: u32 = 2;
 
 /// The bytes of an event: five numbers of four, three of eight.
 const EVENT_LEN: u64 = 44;
@@ -26,6 +27,8 @@ pub struct Made {
 pub struct Book {
     pub profile: Profile<'static>,
     pub report: Report,
+    /// Whether a winner 0 is restart 0 and nothing else: in version 1 it may be the start.
+    pub marks_start: bool,
     pub made: Made,
     pub rule: Rule,
     pub events: Vec<Event>,
@@ -86,7 +89,12 @@ impl Book {
         [r.restarts, r.iterations, r.training_samples].into_iter().try_for_each(|number| out.u32(number))?;
         out.f64(r.init_mse)?;
         out.f64(r.best_mse)?;
-        [r.best_restart, r.empty_cells_repaired, r.events_used].into_iter().try_for_each(|number| out.u32(number))?;
+        let (won, restart) = match r.best_restart {
+            Winner::StartKept => (0, 0),
+            Winner::Restart(restart) => (1, restart),
+        };
+        out.bytes(&[won])?;
+        [restart, r.empty_cells_repaired, r.events_used].into_iter().try_for_each(|number| out.u32(number))?;
         out.u64(r.seed)
     }
 
@@ -97,11 +105,13 @@ impl Book {
         if file.array()? != MAGIC {
             return Err(bad("is no codebook"));
         }
-        if file.u32()? != VERSION {
-            return Err(bad("is a codebook of an unknown version"));
-        }
+        let marks_start = match file.u32()? {
+            1 => false,
+            VERSION => true,
+            _ => return Err(bad("is a codebook of an unknown version")),
+        };
         let profile = read_profile(&mut file)?;
-        let report = read_report(&mut file, &profile)?;
+        let report = read_report(&mut file, &profile, marks_start)?;
         let [samples, start, matrices, rule] = file.array()?;
         for (part, origin) in [("samples", samples), ("start", start), ("restart matrices", matrices)] {
             below(path, format_args!("the origin of its {part}"), origin.into(), 2)?;
@@ -138,7 +148,7 @@ impl Book {
         }
         check_values(&profile, &matrix, &codewords)
             .map_err(Failure::refused(format!("{}: its values", path.display())))?;
-        Ok(Book { profile, report, made, rule, events, codewords, matrix })
+        Ok(Book { profile, report, marks_start, made, rule, events, codewords, matrix })
     }
 }
 
@@ -185,7 +195,7 @@ fn read_profile(file: &mut Summed<Input>) -> Done<Profile<'static>> {
     Ok(profile)
 }
 
-fn read_report(file: &mut Summed<Input>, profile: &Profile) -> Done<Report> {
+fn read_report(file: &mut Summed<Input>, profile: &Profile, marks_start: bool) -> Done<Report> {
     let schema = file.text()?;
     let report = Report {
         restarts: file.u32()?,
@@ -193,18 +203,28 @@ fn read_report(file: &mut Summed<Input>, profile: &Profile) -> Done<Report> {
         training_samples: file.u32()?,
         init_mse: file.f64()?,
         best_mse: file.f64()?,
-        best_restart: file.u32()?,
+        best_restart: read_winner(file, marks_start)?,
         empty_cells_repaired: file.u32()?,
         events_used: file.u32()?,
         seed: file.u64()?,
     };
     let path = file.file.path();
     report.validate(&schema, profile).map_err(Failure::refused(format!("{}: its report", path.display())))?;
-    below(path, "its best restart", report.best_restart, report.restarts)?;
     if report.events_used as usize > MAX_EVENT_SLOTS {
         return Err(Failure::file(path, "has more repairs than a training can"));
     }
     Ok(report)
+}
+
+fn read_winner(file: &mut Summed<Input>, marks_start: bool) -> Done<Winner> {
+    let won = if marks_start { file.array()? } else { [1] };
+    match (won, file.u32()?) {
+        ([0], 0) => Ok(Winner::StartKept),
+        ([1], restart) => Ok(Winner::Restart(restart)),
+        ([won], restart) => {
+            Err(Failure::file(file.file.path(), format!("has the winner {won} {restart}, which no training writes")))
+        }
+    }
 }
 
 fn read_event(file: &mut Summed<Input>) -> Done<Event> {

@@ -58,7 +58,8 @@ What is not handed in is made from the vectors and the seed:
   matrices and rotation: random orthogonal matrices
 
 Before it begins it says what memory it takes. Beside the samples that is start, matrices, rotation, codewords, work and
-event slots; none of these grows with S.
+event slots; none of these grows with S. At the end it says the mean errors of start and codebook, and which restart
+won, or that the start was kept, since no restart's error was below its own.
 ";
 
 const ENCODE: &str = "\
@@ -78,8 +79,9 @@ its place, counted from 0, and nothing is written.
 const INSPECT: &str = "\
 nuqtelya inspect FILE [--codebook FILE] [--repairs] [--values]
 
-Shows a codebook's shape, how it was trained, its report and repairs; or, of a file of codes, the head of the first and,
-with its codebook, whether all can be read.
+Shows a codebook's shape, how it was trained, its report (also which restart won, or that the start was kept; a file of
+version 1 does not tell restart 0 from the start) and repairs; or, of a file of codes, the head of the first and, with
+its codebook, whether all can be read.
 
   --codebook FILE  the codebook of a file of codes: whatever is no codebook itself is then read as codes of it
   --repairs        all repairs and not only the first ten

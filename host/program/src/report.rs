@@ -2,16 +2,12 @@
 
 use crate::book::Book;
 use crate::rotation::Rule;
-use nuqtelya::{Event, Profile, HEADER_LEN, SPLIT_HIGHEST_DISTORTION};
+use nuqtelya::{Event, Profile, Winner, HEADER_LEN, SPLIT_HIGHEST_DISTORTION};
 use std::fmt::Write;
 
 /// The shape, the training's report, how its parts came about, and the number of repairs.
 pub fn training(book: &Book) -> String {
     let (p, r) = (&book.profile, &book.report);
-    let winner = match r.best_restart {
-        _ if r.best_mse >= r.init_mse => "nothing beat the start".to_string(),
-        winner => format!("restart {winner} won"),
-    };
     let mut text = format!(
         "shape: vectors of {} values (d), blocks of {} (k), {} codewords (N)\n",
         p.ambient_dim, p.block_dim, p.codebook_size
@@ -20,10 +16,22 @@ pub fn training(book: &Book) -> String {
     text.push_str(&origins(book));
     let _ = writeln!(text, "rounds: {} in each of {} restarts", r.iterations, r.restarts);
     let _ = writeln!(text, "mean error of the start: {:.9}", r.init_mse);
-    let _ = writeln!(text, "mean error of the codebook: {:.9} ({winner})", r.best_mse);
+    let _ = writeln!(text, "mean error of the codebook: {:.9} ({})", r.best_mse, winner(book));
     let policy = if p.empty_cell_policy == SPLIT_HIGHEST_DISTORTION { "split the worst cell" } else { "refuse" };
     let _ = writeln!(text, "empty cells repaired: {} (policy: {policy})", r.empty_cells_repaired);
     text
+}
+
+/// Whose codebook it is. What version 1 does not say the errors do: a restart wins only with a smaller one.
+fn winner(book: &Book) -> String {
+    let r = &book.report;
+    match r.best_restart {
+        Winner::Restart(0) if !book.marks_start => {
+            let likely = if r.best_mse < r.init_mse { "restart 0" } else { "the start" };
+            format!("restart 0 or the start: a file of version 1 does not say; by its errors {likely}")
+        }
+        winner => winner.to_string(),
+    }
 }
 
 /// Which parts were handed in, and which were made, by what.

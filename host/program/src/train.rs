@@ -117,7 +117,7 @@ impl Job {
         });
         let report = report.map_err(Failure::refused("the training"))?;
         events.truncate(report.events_used as usize);
-        Ok(Book { profile: *p, report, made, rule, events, codewords, matrix })
+        Ok(Book { profile: *p, report, marks_start: true, made, rule, events, codewords, matrix })
     }
 
     /// Event slots: as many as asked for, else as there can be repairs, since a round leaves at least one cell alone.

@@ -354,10 +354,23 @@ fn damage_is_found_with_the_codebook() {
 fn changed(book: &[u8], place: usize, bytes: &[u8]) -> Vec<u8> {
     let mut book = book[..book.len() - 8].to_vec();
     book[place..place + bytes.len()].copy_from_slice(bytes);
+    summed(book)
+}
+
+fn summed(mut book: Vec<u8>) -> Vec<u8> {
     let add = |sum: u64, byte: &u8| (sum ^ u64::from(*byte)).wrapping_mul(0x100_0000_01b3);
     let sum = book.iter().fold(0xcbf2_9ce4_8422_2325, add);
     book.extend(sum.to_le_bytes());
     book
+}
+
+/// Where a codebook says which codebook won, by docs/FILES.md, with names of 20, 37 and 15 bytes.
+const WINNER: usize = 185;
+
+/// A codebook as version 1 has it: without the mark of the start that was kept.
+fn version_1(book: &[u8]) -> Vec<u8> {
+    let parts = [&book[..8], &[1, 0, 0, 0], &book[12..WINNER], &book[WINNER + 1..book.len() - 8]];
+    summed(parts.concat())
 }
 
 #[test]
@@ -371,12 +384,10 @@ fn values_that_no_training_writes() {
     );
     assert!(folder.done("inspect book").contains("repaired: 2"));
     let book = folder.read("book");
-    // The places by docs/FILES.md, with names of 20, 37 and 15 bytes and two events; a number there that is still read,
-    // and one that is not.
-    let (policy, best, origin, event, codewords) = (140, 185, 205, 209, 209 + 2 * 44);
+    // The places by docs/FILES.md, with two events; a number there that is still read, and one that is not.
+    let (policy, origin, event, codewords) = (140, WINNER + 21, WINNER + 25, WINNER + 25 + 2 * 44);
     for (place, fits, unfit, said) in [
         (policy, 1, 2, "other: its policy for empty cells is 2, not below 2"),
-        (best, 1, 2, "other: its best restart is 2, not below 2"),
         (origin, 1, 2, "other: the origin of its samples is 2, not below 2"),
         (origin + 1, 1, 2, "other: the origin of its start is 2, not below 2"),
         (origin + 2, 0, 255, "other: the origin of its restart matrices is 255, not below 2"),
@@ -422,15 +433,71 @@ fn every_end_of_a_training_can_be_read() {
     folder.write("samples", &bytes64([0.0, 1.0, 0.0, 3.0, 0.0, -1.0, 0.0, -3.0]));
     folder.write("swap", &bytes64([0.0, 1.0, 1.0, 0.0]));
     let train = "train --dim 4 --block 2 --codewords 2 --samples samples --start start --iterations 1 --out book";
-    for (start, options, won, repairs) in [
-        ([1.0, 0.0, -1.0, 0.0], "--restarts 2 --matrices swap", "restart 1 won", "repaired: 1 (policy: split"),
-        ([0.0, 1.0, 0.0, -1.0], "--restarts 1 --empty-cells fail", "restart 0 won", "repaired: 0 (policy: refuse"),
-        ([0.0, 2.0, 0.0, -2.0], "--restarts 1", "nothing beat the start", "repaired: 0 (policy: split"),
+    folder.write("vectors", &bytes32(&values(4 * 3)));
+    for (start, options, won, repairs, version_1_says) in [
+        (
+            [1.0, 0.0, -1.0, 0.0],
+            "--restarts 2 --matrices swap",
+            "(restart 1 won)",
+            "repaired: 1 (policy: split",
+            "(restart 1 won)",
+        ),
+        (
+            [0.0, 1.0, 0.0, -1.0],
+            "--restarts 1 --empty-cells fail",
+            "(restart 0 won)",
+            "repaired: 0 (policy: refuse",
+            "(restart 0 or the start: a file of version 1 does not say; by its errors restart 0)",
+        ),
+        (
+            [0.0, 2.0, 0.0, -2.0],
+            "--restarts 1",
+            "(start kept)",
+            "repaired: 0 (policy: split",
+            "(restart 0 or the start: a file of version 1 does not say; by its errors the start)",
+        ),
     ] {
         folder.write("start", &bytes64(start));
-        folder.done(&format!("{train} {options}"));
+        assert!(folder.done(&format!("{train} {options}")).contains(won));
         let said = folder.done("inspect book");
         assert!(said.contains(won) && said.contains(repairs), "{said}");
+        // A file of version 1 serves as it did, and says what it does not tell.
+        folder.write("old", &version_1(&folder.read("book")));
+        assert_eq!(folder.done("inspect old"), said.replacen("book", "old", 1).replace(won, version_1_says));
+        folder.done("encode --codebook book --vectors vectors --out codes");
+        folder.done("encode --codebook old --vectors vectors --out old-codes");
+        assert_eq!(folder.read("old-codes"), folder.read("codes"));
+    }
+}
+
+#[test]
+fn winners_that_no_training_writes() {
+    let folder = Folder::new("winners");
+    folder.write("samples", &bytes64([0.0, 1.0, 0.0, 3.0, 0.0, -1.0, 0.0, -3.0]));
+    folder.done("train --dim 4 --block 2 --codewords 2 --samples samples --restarts 3 --iterations 1 --out book");
+    let book = folder.read("book");
+    let with = |won: u8, restart: u32| {
+        let mut bytes = vec![won];
+        bytes.extend(restart.to_le_bytes());
+        changed(&book, WINNER, &bytes)
+    };
+    for (won, restart, said) in [(0, 0, "(start kept)"), (1, 0, "(restart 0 won)"), (1, 2, "(restart 2 won)")] {
+        folder.write("other", &with(won, restart));
+        assert!(folder.done("inspect other").contains(said));
+    }
+    for restart in [3, u32::MAX] {
+        folder.write("other", &with(1, restart));
+        folder.fails("inspect other", 1, "other: its report: refused by 20");
+        folder.write("other", &version_1(&with(1, restart)));
+        folder.fails("inspect other", 1, "other: its report: refused by 20");
+    }
+    for (won, restart) in [(0, 1), (2, 0), (255, 2)] {
+        folder.write("other", &with(won, restart));
+        folder.fails("inspect other", 3, "other: has the winner");
+    }
+    for version in [0, 3] {
+        folder.write("other", &changed(&book, 8, &[version]));
+        folder.fails("inspect other", 3, "other: is a codebook of an unknown version");
     }
 }
 

@@ -1,15 +1,16 @@
 -- `lloyd_steps::start_refine` meets its contract: the initial codebook
 -- stands twice in the work, and the first round begins. Assumes nothing.
-use mathlib.Core.Path.{_≡_, refl, _∙_}
+use mathlib.Core.Path.{_≡_, refl, ap, _∙_}
 use mathlib.Core.List.{[]}
 use native.Mathlib.Omega.{arith}
 use lib.ListN.{length}
 use borrow.Author.Needs.{needs}
 use Rattle.error.specs.Numbers.{completed}
+use Rattle.lloyd_refine.specs.declared.RefineState.{RefineState}
 use Rattle.lloyd_refine.specs.Refine.{Job, refineChecks, trainedFrom, startBest}
 use Rattle.lloyd_refine.specs.Standing.{jobOf}
 use Rattle.lloyd_refine.specs.Pauses.{Pausing}
-use Rattle.lloyd_steps.specs.Steps.{firstState, AtRound}
+use Rattle.lloyd_steps.specs.Steps.{AtRound}
 use Rattle.lloyd_refine.proofs.CheckLaw.{Passed, checks-passed}
 use Rattle.lloyd_refine.proofs.TurnLaw.{by-job, to-args}
 use Rattle.lloyd_steps.proofs.RestartLaw.{can-measure}
@@ -28,11 +29,14 @@ passed : (c : tie.Start) → Passed (jobFor c (c .pre .job))
 passed c = checks-passed (jobFor c (c .pre .job)) (ready c)
 
 -- the first round is about to begin
-begun : (c : tie.After-mean-error) (j : Job) → let s = c .before .before .before .before .before .before .before .before .before .before .before .before .before .before .before in let z = jobFor s j in refineChecks z ≡ completed tt → length (s .args .work .now) ≡ z .floatWork → length (s .args .ints .now) ≡ z .integerWork
-    → AtRound z (startBest z) (trainedFrom z 0 (startBest z)) (firstState (c .mean-error .result)) (c .before .before .before .copy-in2 .last .1 .0) (s .args .ints .now)
+begun : (c : tie.After-first-state) (j : Job) → let s = c .before .before .before .before .before .before .before .before .before .before .before .before .before .before .before .before .before .before in let z = jobFor s j in refineChecks z ≡ completed tt → length (s .args .work .now) ≡ z .floatWork → length (s .args .ints .now) ≡ z .integerWork
+    → AtRound z (startBest z) (trainedFrom z 0 (startBest z)) (c .first-state .result) (c .before .before .before .before .before .before .copy-in2 .last .1 .0) (s .args .ints .now)
 begun c j k f i =
-    let s = c .before .before .before .before .before .before .before .before .before .before .before .before .before .before .before in
-    begins (jobFor s j) k (s .args .work .now) (c .before .before .before .before .before .before .before .copy-in .last .1 .0) (c .before .before .before .copy-in2 .last .1 .0) f (c .before .before .before .before .before .before .before .copy-in .ensures) (c .before .before .before .copy-in2 .ensures) (c .mean-error .result) (c .mean-error .ensures) (s .args .ints .now) i
+    let s = c .before .before .before .before .before .before .before .before .before .before .before .before .before .before .before .before .before .before in
+    let one = c .before .before .before .before .before .before .before .before .before .before .copy-in in
+    let two = c .before .before .before .before .before .before .copy-in2 in
+    let m = c .before .before .before .mean-error in
+    rw (c .first-state .ensures) (begins (jobFor s j) k (s .args .work .now) (one .last .1 .0) (two .last .1 .0) f (one .ensures) (two .ensures) (m .result) (m .ensures) (s .args .ints .now) i)
 
 cast-n : tie.Need-cast-n
 cast-n c = search needs
@@ -52,24 +56,28 @@ copy-in-requires-2 c κs = let p = passed (c .before .before .before .before .be
 mean-error-requires : tie.Need-mean-error-requires
 mean-error-requires c κs = let m = can-measure (jobFor (c .before .before .before .before .before .before .before .before .before .before .before .before .before .before) (c .before .before .before .before .before .before .before .before .before .before .before .before .before .before .pre .job)) (ready (c .before .before .before .before .before .before .before .before .before .before .before .before .before .before)) in (m .0, passed (c .before .before .before .before .before .before .before .before .before .before .before .before .before .before) .initial-length, m .1, m .2)
 
+first-state-requires : tie.Need-first-state-requires
+first-state-requires c κs = search needs
+
 start-round-requires : tie.Need-start-round-requires
 start-round-requires c κs =
-    let q = c .before .before .before .before .before .before .before .before .before .before .before .before .before .before .before .before .before .pre in
-    let z = jobFor (c .before .before .before .before .before .before .before .before .before .before .before .before .before .before .before .before .before) (q .job) in
-    record { job = z; b = startBest z; t = trainedFrom z 0 (startBest z); matches = record { profile = refl; initial = refl; samples = refl; matrices = refl; slots = refl }; standing = begun (c .before .before) (q .job) (ready (c .before .before .before .before .before .before .before .before .before .before .before .before .before .before .before .before .before)) (q .float-work) (q .integer-work); below = omega (arith, passed (c .before .before .before .before .before .before .before .before .before .before .before .before .before .before .before .before .before) .valid .settings .iterations-least) }
+    let s = c .before .before .before .before .before .before .before .before .before .before .before .before .before .before .before .before .before .before in
+    let q = s .pre in
+    let z = jobFor s (q .job) in
+    record { job = z; b = startBest z; t = trainedFrom z 0 (startBest z); matches = record { profile = refl; initial = refl; samples = refl; matrices = refl; slots = refl }; standing = begun c (q .job) (ready s) (q .float-work) (q .integer-work); below = omega (arith, ap (λ (x : RefineState). x .iteration) (c .first-state .ensures), passed s .valid .settings .iterations-least) }
 
 same-length : tie.Need-same-length
-same-length c = c .before .before .before .before .start-round .kept .1 .0 ∙ c .before .before .before .before .before .before .before .before .before .before .copy-in2 .kept .1 .0 ∙ c .before .before .before .before .before .before .before .before .before .before .before .before .before .before .copy-in .kept .1 .0
+same-length c = c .before .before .before .before .start-round .kept .1 .0 ∙ c .before .before .before .before .before .before .before .before .before .before .before .copy-in2 .kept .1 .0 ∙ c .before .before .before .before .before .before .before .before .before .before .before .before .before .before .before .copy-in .kept .1 .0
 
 same-length-2 : tie.Need-same-length-2
 same-length-2 c = c .before .before .before .before .start-round .kept .1 .1 .0
 
 returns : tie.Need-returns
 returns c =
-    let s = c .before .before .before .before .before .before .before .before .before .before .before .before .before .before .before .before .before .before .before .before .before .before in
+    let s = c .before .before .before .before .before .before .before .before .before .before .before .before .before .before .before .before .before .before .before .before .before .before .before in
     let n = c .before .before .before .before in
     λ j same. by-job j (λ (z : Job). refineChecks z ≡ completed tt → length (s .args .work .now) ≡ z .floatWork → length (s .args .ints .now) ≡ z .integerWork → Pausing z [] (n .start-round .last .1 .0) (n .start-round .last .1 .1 .0) (n .start-round .result)) same
-    (λ k f i. n .start-round .ensures .0 (jobFor s j) (startBest (jobFor s j)) (trainedFrom (jobFor s j) 0 (startBest (jobFor s j))) (record { profile = refl; initial = refl; samples = refl; matrices = refl; slots = refl }) (begun (c .before .before .before .before .before .before .before) j k f i))
+    (λ k f i. n .start-round .ensures .0 (jobFor s j) (startBest (jobFor s j)) (trainedFrom (jobFor s j) 0 (startBest (jobFor s j))) (record { profile = refl; initial = refl; samples = refl; matrices = refl; slots = refl }) (begun (n .before) j k f i))
 
 pub start-refine-spec : {M : Type 1} → statement M
 start-refine-spec =
@@ -81,6 +89,7 @@ start-refine-spec =
     mul-copy-in
     copy-in-requires-2
     mean-error-requires
+    first-state-requires
     start-round-requires
     same-length
     same-length-2

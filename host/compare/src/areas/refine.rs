@@ -4,9 +4,9 @@ use super::profile::{published, validity};
 use super::training::{Left, Lent};
 use crate::inputs;
 use crate::rules::{bounded, edges, grid, length, samples, shorten, values, with_slots};
-use crate::run::{lent, Outcome, Run, Same};
+use crate::run::{lent, refused, Outcome, Run, Same};
 use beside::{event, proved};
-use nuqtelya::Report;
+use nuqtelya::{Report, Winner};
 use oracle::inputs::fitting;
 use oracle::lloyd::probe;
 use oracle::profile::probe::Profile;
@@ -43,10 +43,18 @@ pub fn run(run: &mut Run) -> Outcome {
     many_rounds(run)?;
     rooms(run)?;
     wrong(run)?;
+    winners(run)?;
     reports(run)?;
     run.met(
         &[2, 4, 6, 7, 14, 16, 18, 19, 20],
-        &["restart 0 won", "the start was kept", "a later restart won", "with repairs"],
+        &[
+            "restart 0 won",
+            "the start was kept",
+            "a later restart won",
+            "with repairs",
+            "a restart as good as the start that was kept",
+            "a later restart as good as the winner",
+        ],
     )
 }
 
@@ -154,6 +162,66 @@ fn rooms(run: &mut Run) -> Outcome {
     Ok(())
 }
 
+/// Every small job of codewords and samples of one value: the winner is the one that the errors of all codebooks name.
+fn winners(run: &mut Run) -> Outcome {
+    for restarts in 1..=3 {
+        for matrices in grid(&[-1.0, 0.0, 1.0, 2.0], restarts - 1) {
+            for initial in grid(&[-1.0, 0.0, 1.0, 2.0], 2) {
+                for samples in (2..=3).flat_map(|count| grid(&[0.0, 1.0, 3.0], count)) {
+                    for iterations in 1..=2 {
+                        let job = job(2, 1, &initial, &samples, restarts, iterations, 12);
+                        winner(run, &Job { matrices: matrices.clone(), ..job })?;
+                    }
+                }
+            }
+        }
+    }
+    Ok(())
+}
+
+fn winner(run: &mut Run, job: &Job) -> Outcome {
+    case(run, job)?;
+    // One that is refused has no winner.
+    let Some(errors) = errors(job) else { return Ok(()) };
+    let least = errors.iter().copied().fold(f64::INFINITY, f64::min);
+    let first = errors.iter().position(|error| *error == least).expect("an error");
+    let expected = first.checked_sub(1).map_or(Winner::StartKept, |restart| Winner::Restart(restart as u32));
+    if errors[first + 1..].contains(&least) {
+        run.see(match expected {
+            Winner::StartKept => "a restart as good as the start that was kept",
+            Winner::Restart(_) => "a later restart as good as the winner",
+        });
+    }
+    let found = leaves(job).answer.map(|report| report.best_restart);
+    run.same("the winner", &Ok(expected), &found, || {
+        let Job { profile, initial, samples, matrices, .. } = job;
+        inputs!(profile, initial, samples, matrices)()
+    })
+}
+
+/// The mean errors of the start and of the end of each restart, of codewords of one value: round by round, by the
+/// published search, update and mean error.
+fn errors(job: &Job) -> Option<Vec<f64>> {
+    let Job { profile, initial, samples, .. } = job;
+    let error = |codebook: &[f64]| probe::mse_for_codebook(codebook, 1, samples).ok();
+    let mut errors = vec![error(initial)?];
+    for restart in 0..profile.restarts {
+        let turned = |matrix: &f64| initial.iter().map(|value| 0.0 + matrix * value).collect();
+        let mut codebook: Vec<f64> =
+            (restart as usize).checked_sub(1).map_or_else(|| initial.clone(), |place| turned(&job.matrices[place]));
+        for iteration in 0..profile.iterations {
+            let nearest = |sample: &[f64]| probe::nearest_index(sample, &codebook, 1).0 as usize;
+            let assignments: Vec<usize> = samples.chunks(1).map(nearest).collect();
+            let policy = profile.empty_cell_policy;
+            let updated =
+                probe::update_centroids(&codebook, 1, samples, &assignments, policy, restart, iteration).ok()?;
+            codebook = updated.codebook;
+        }
+        errors.push(error(&codebook)?);
+    }
+    Some(errors)
+}
+
 /// What makes a job wrong, or right at its limit.
 const FAULTS: [fn(&mut Job); 44] = [
     |j| j.log2 = f64::NAN,
@@ -237,9 +305,9 @@ fn case(run: &mut Run, job: &Job) -> Outcome {
     let expected = expected(job);
     if let Ok(report) = &expected.answer {
         run.see(match report.best_restart {
-            0 if report.best_mse < report.init_mse => "restart 0 won",
-            0 => "the start was kept",
-            _ => "a later restart won",
+            Winner::StartKept => "the start was kept",
+            Winner::Restart(0) => "restart 0 won",
+            Winner::Restart(_) => "a later restart won",
         });
         if report.events_used > 0 {
             run.see("with repairs");
@@ -301,7 +369,7 @@ fn checks(job: &Job) -> Answer<()> {
 }
 
 /// What makes a report wrong, or leaves it right.
-const CHANGES: [fn(&mut probe::Report); 21] = [
+const CHANGES: [fn(&mut probe::Report); 20] = [
     |_| (),
     |r| r.schema_version.clear(),
     |r| r.schema_version.push('1'),
@@ -319,13 +387,13 @@ const CHANGES: [fn(&mut probe::Report); 21] = [
     |r| r.best_mse = f64::INFINITY,
     |r| r.best_mse = f64::NAN,
     |r| r.best_mse = f64::MAX,
-    |r| r.best_restart = u32::MAX,
     |r| r.empty_cells_repaired = 2,
     |r| r.empty_cells_repaired = u32::MAX,
     |r| shorten(&mut r.repair_events),
 ];
 
-/// Reports with one or two members changed.
+/// Reports with one or two members changed, and every kind of winner. The Rust does not look at the winner; one that is
+/// not below R is refused before anything that it refuses with another site.
 fn reports(run: &mut Run) -> Outcome {
     // One repair.
     let job = job(2, 1, &[5.0, 5.0], &[0.0, 1.0, 3.0], 1, 1, 1);
@@ -339,22 +407,42 @@ fn reports(run: &mut Run) -> Outcome {
                 let mut report = good.report.clone();
                 first(&mut report);
                 second(&mut report);
-                let expected = probe::validate_report(&report, &profile);
-                let given = beside::profile(&profile, 1.0);
-                let found = beside::report(&report).validate(report.schema_version.as_bytes(), &given);
-                run.same("validate_report", &expected, &proved(found), || format!("\n  {report:?}\n  {profile:?}"))?;
+                for number in [0, 1, 8, 9, u32::MAX] {
+                    report.best_restart = number;
+                    for winner in [Winner::Restart(number), Winner::StartKept] {
+                        report_case(run, &report, winner, &profile)?;
+                    }
+                }
             }
         }
     }
     Ok(())
 }
 
+fn report_case(run: &mut Run, report: &probe::Report, winner: Winner, profile: &Profile) -> Outcome {
+    let expected = match winner {
+        Winner::Restart(number) if number >= profile.restarts => refused(20, &[1]),
+        _ => probe::validate_report(report, profile),
+    };
+    let given = Report { best_restart: winner, ..beside::report(report) };
+    let found = given.validate(report.schema_version.as_bytes(), &beside::profile(profile, 1.0));
+    run.same("validate_report", &expected, &proved(found), || format!("\n  {report:?}\n  {winner}\n  {profile:?}"))
+}
+
+impl Same for Winner {
+    fn same(&self, other: &Self) -> bool {
+        self == other
+    }
+    fn hex(&self) -> String {
+        self.to_string()
+    }
+}
+
 impl Same for Report {
     fn same(&self, other: &Self) -> bool {
-        let whole = |r: &Report| {
-            [r.restarts, r.iterations, r.training_samples, r.best_restart, r.empty_cells_repaired, r.events_used]
-        };
+        let whole = |r: &Report| [r.restarts, r.iterations, r.training_samples, r.empty_cells_repaired, r.events_used];
         whole(self) == whole(other)
+            && self.best_restart == other.best_restart
             && self.seed == other.seed
             && self.init_mse.same(&other.init_mse)
             && self.best_mse.same(&other.best_mse)
