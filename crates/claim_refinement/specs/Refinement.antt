@@ -1,6 +1,6 @@
 -- What demand 3 claims of a refinement: `AnyRefinement`, at the end; proofs/RefinementLaw.antt proves it of every job.
--- It speaks of `refinement`, `roundOf`, `startOf`, `errorOf` and `slotsAfter`, the definitions for refine's own
--- contract, and of histories as crate claim_history has them.
+-- It speaks of `refinement`, `roundOf`, `startOf`, `errorOf`, `reportOf`, `codewordsAfter` and `slotsAfter`, the
+-- definitions for refine's own contract, and of histories as crate claim_history has them.
 -- Document 01's terms: the start is candidate 0, the end of restart
 -- r is candidate r + 1; the error is measured before narrowing.
 -- Definitions only.
