@@ -149,7 +149,8 @@ fn put_refined(
     }
 }
 
-// A training, from an initial codebook and the matrices of its further restarts.
+// A training, from an initial codebook and the matrices of its further restarts. An accepted one leaves in `report`: R,
+// rounds, S; whether a restart won, 0 where the start was kept, and its number; repairs, events, seed.
 #[no_mangle]
 pub extern "C" fn fib_refine(
     schema: &[u8],
@@ -230,7 +231,8 @@ pub extern "C" fn fib_refine(
     put_refined(answer, report, whole, real)
 }
 
-// A report of this schema against the profile, of which the test needs neither the texts nor log2.
+// A report of this schema against the profile, of which the test needs neither the texts nor log2; `restart_won` is 0
+// where the start was kept.
 #[no_mangle]
 pub extern "C" fn fib_validate_report(
     report_schema: &[u8],
