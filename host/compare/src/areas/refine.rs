@@ -52,6 +52,7 @@ pub fn run(run: &mut Run) -> Outcome {
             "the start was kept",
             "a later restart won",
             "with repairs",
+            "a winner stated apart",
             "a restart as good as the start that was kept",
             "a later restart as good as the winner",
         ],
@@ -183,6 +184,7 @@ fn winner(run: &mut Run, job: &Job) -> Outcome {
     case(run, job)?;
     // One that is refused has no winner.
     let Some(errors) = errors(job) else { return Ok(()) };
+    run.see("a winner stated apart");
     let least = errors.iter().copied().fold(f64::INFINITY, f64::min);
     let first = errors.iter().position(|error| *error == least).expect("an error");
     let expected = first.checked_sub(1).map_or(Winner::StartKept, |restart| Winner::Restart(restart as u32));
