@@ -192,3 +192,30 @@ le-not-lt x y h = go (lt x y) (lt-asym x y) h
     go : (b : Bool) → (T b → T (not (lt y x))) → T (b || eq x y) → T (not (lt y x))
     go true k h = k tt
     go false k h = eq-not-lt x y h
+
+-- x ≤ y < z. Of any floats
+pub le-lt : (x y z : Float) → T (le x y) → T (lt y z) → T (lt x z)
+unfolding lt eq le
+le-lt nan y z a b = absurd a
+le-lt (inf s) nan z a b = absurd a
+le-lt (inf true) (inf true) z a b = b
+le-lt (inf true) (inf false) nan a b = absurd b
+le-lt (inf true) (inf false) (inf u) a b = absurd b
+le-lt (inf true) (inf false) (fin u o i) a b = absurd b
+le-lt (inf false) (inf true) z a b = absurd a
+le-lt (inf false) (inf false) z a b = b
+le-lt (inf true) (fin t n d) nan a b = absurd b
+le-lt (inf true) (fin t n d) (inf u) a b = b
+le-lt (inf true) (fin t n d) (fin u o i) a b = tt
+le-lt (inf false) (fin t n d) z a b = absurd a
+le-lt (fin s m e) nan z a b = absurd a
+le-lt (fin s m e) (inf true) z a b = absurd a
+le-lt (fin s m e) (inf false) nan a b = absurd b
+le-lt (fin s m e) (inf false) (inf u) a b = absurd b
+le-lt (fin s m e) (inf false) (fin u o i) a b = absurd b
+le-lt (fin s m e) (fin t n d) nan a b = absurd b
+le-lt (fin s m e) (fin t n d) (inf u) a b = b
+le-lt (fin s m e) (fin t n d) (fin u o i) a b = elim (lt-or-not (fin s m e) (fin u o i)) [
+  | inl l ↦ l
+  | inr l ↦ absurd (T-not (lt (fin t n d) (fin s m e)) (le-not-lt (fin s m e) (fin t n d) a) (cut-lt (fin t n d) (fin u o i) (fin s m e) tt tt tt b l))
+]
