@@ -1,8 +1,9 @@
 -- What a completed call of nearest or of mean error, alone, has shown: the shapes and the bounds that the checks ask.
--- So every arithmetic result of such a call is finite, and the codeword found is the first of the nearest. In
--- particular the mean is finite: the Rust's refusal of a mean error that is not (NumericalFailure) can't come from it.
+-- So every arithmetic result of such a call is finite, the codeword found is the first of the nearest, and the mark says
+-- whether another has its distance. In particular the mean is finite: the Rust's refusal of a mean error that is not
+-- (NumericalFailure) can't come from it.
 -- Assumes nothing.
-use mathlib.Core.Path.{_≡_, subst}
+use mathlib.Core.Path.{_≡_, refl, ap, _∙_, subst}
 use Prim.Native.Nat.{ℕ, _+_, _*_, _/_, _^_, _≤_, _<_}
 use native.Mathlib.Omega.{arith}
 use mathlib.Core.Bool.{not}
@@ -16,13 +17,13 @@ use Rattle.ieee.specs.Bounds.{Upto}
 use Rattle.error.specs.Numbers.{completed, whole}
 use Rattle.error.proofs.Outcomes.{passed, completed-same}
 use Rattle.slices.specs.Limit.{firstOutside}
-use Rattle.lloyd_search.specs.declared.Found.{Found}
+use Rattle.lloyd_alone.specs.declared.Marked.{Marked}
 use Rattle.lloyd_search.specs.Distance.{distance, vectorOf, rowOf}
-use Rattle.lloyd_search.specs.Nearest.{nearest, meanError, Least}
+use Rattle.lloyd_search.specs.Nearest.{another, tiedAt, meanError, Least}
 use Rattle.lloyd_search.specs.Shape.{codebookShaped, samplesShaped}
 use Rattle.lloyd_search.specs.Finite.{FiniteNearest, FiniteMean}
 use Rattle.lloyd_alone.specs.Totals.{FiniteTotals}
-use Rattle.lloyd_alone.specs.Answers.{searchLimit, nearestAlone, meanErrorAlone}
+use Rattle.lloyd_alone.specs.Answers.{searchLimit, marked, nearestAlone, meanErrorAlone}
 use Rattle.lloyd_search.proofs.Parts.{row-place}
 use Rattle.lloyd_search.proofs.ShapeLaw.{Codebook, Samples, codebook-shape, samples-shape, some-sample}
 use Rattle.lloyd_search.proofs.LimitLaw.{all-within, passed-bounded}
@@ -34,13 +35,13 @@ rows-bounded : (b n k : ℕ) (xs : List Float) → ((i : ℕ) → i < length xs 
 rows-bounded b n k xs h e i l j m = h (i * k + j) (row-place i n k j (length xs) l m e)
 
 -- ---- nearest, called alone
-pub record NearestAccepted (n k : ℕ) (codewords block : List Float) (f : Found) : Type 0 where
+pub record NearestAccepted (n k : ℕ) (codewords block : List Float) (f : Marked) : Type 0 where
   pub shape : Codebook n k (length codewords)
   pub block-bounded : Bounded 128 k (vectorOf block)
   pub codewords-bounded : (i : ℕ) → i < n → Bounded 128 k (rowOf k codewords i)
-  pub answer : nearest k n (rowOf k codewords) (vectorOf block) ≡ f
+  pub answer : marked k n (rowOf k codewords) (vectorOf block) ≡ f
 
-module _ (n k : ℕ) (codewords block : List Float) (f : Found) (e : nearestAlone n k codewords block ≡ completed f) where
+module _ (n k : ℕ) (codewords block : List Float) (f : Marked) (e : nearestAlone n k codewords block ≡ completed f) where
   pub nearest-accepted : NearestAccepted n k codewords block f
   unfolding nearestAlone
   nearest-accepted =
@@ -67,11 +68,18 @@ module _ (n k : ℕ) (codewords block : List Float) (f : Found) (e : nearestAlon
       let a = nearest-accepted in
       finite-totals 128 (lit≤ tt) k (a .shape .coordinates-upto) n (a .shape .codewords-upto) (rowOf k codewords) (a .codewords-bounded) (vectorOf block) (a .block-bounded)
 
-  pub nearestAlone-least : Least (λ i. distance k (vectorOf block) (rowOf k codewords i)) n f
+  pub nearestAlone-least : Least (λ i. distance k (vectorOf block) (rowOf k codewords i)) n (f .found)
   nearestAlone-least =
       let a = nearest-accepted in
-      subst (Least (λ i. distance k (vectorOf block) (rowOf k codewords i)) n) (a .answer)
+      subst (λ (m : Marked). Least (λ i. distance k (vectorOf block) (rowOf k codewords i)) n (m .found)) (a .answer)
       (nearest-least 128 (lit≤ tt) k (a .shape .coordinates-upto) n (a .shape .codewords) (rowOf k codewords) (a .codewords-bounded) (vectorOf block) (a .block-bounded))
+
+  -- the mark: another codeword has the same distance as the one found
+  pub nearestAlone-tied : f .tied ≡ tiedAt (λ i. distance k (vectorOf block) (rowOf k codewords i)) n (f .found .index)
+  nearestAlone-tied =
+      let far : ℕ → Float = λ i. distance k (vectorOf block) (rowOf k codewords i) in
+      subst (λ (m : Marked). m .tied ≡ another far n (m .found)) (nearest-accepted .answer) refl
+      ∙ ap (λ (x : Float). another far n (record { index = f .found .index; distance = x })) (nearestAlone-least .is)
 
 -- ---- mean error, called alone
 pub record MeanAccepted (n k : ℕ) (codewords samples : List Float) (x : Float) : Type 0 where

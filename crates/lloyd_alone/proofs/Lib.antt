@@ -1,5 +1,4 @@
 mod SmallLaw
-mod TournamentLaw
 mod WatchLaw
 mod TotalsLaw
 pub mod AnswersLaw

@@ -9,26 +9,30 @@ use lib.Ieee.{Float, fin}
 use Rattle.error.specs.Names.{codewordsSlice, inputSlice, samplesSlice}
 use Rattle.error.specs.Numbers.{Outcome, completed, refused, refusal, whole}
 use Rattle.slices.specs.Limit.{firstOutside, bounded}
-use Rattle.lloyd_search.specs.declared.Found.{Found}
+use Rattle.lloyd_alone.specs.declared.Marked.{Marked}
 use Rattle.lloyd_alone.specs.declared.NearestCodeword.{NearestCodeword}
 use Rattle.lloyd_alone.specs.declared.NearestCodeword.the-variants.{Nearest, Refused}
 use Rattle.lloyd_alone.specs.declared.CodebookError.{CodebookError}
 use Rattle.lloyd_alone.specs.declared.CodebookError.the-variants as error-variants
 use Rattle.lloyd_search.specs.Distance.{vectorOf, rowOf}
-use Rattle.lloyd_search.specs.Nearest.{nearest, meanError}
+use Rattle.lloyd_search.specs.Nearest.{nearest, tied, meanError}
 use Rattle.lloyd_search.specs.Shape.{codebookShaped, samplesShaped}
 
 -- 2 ^ 128
 abbrev pub searchLimit : Float
 searchLimit = fin false 1 (pos 128)
 
-unfoldable pub nearestAlone : ℕ → ℕ → List Float → List Float → Outcome Found
+-- the codeword nearest to x, and whether another is as near
+abbrev pub marked : ℕ → ℕ → (ℕ → ℕ → Float) → (ℕ → Float) → Marked
+marked k n book x = record { found = nearest k n book x; tied = tied k n book x }
+
+unfoldable pub nearestAlone : ℕ → ℕ → List Float → List Float → Outcome Marked
 nearestAlone n k codewords block =
     cond (not (codebookShaped n k (length codewords))) (refused 7 (whole codewordsSlice ∷ []))
     (cond (not (eqb (length block) k)) (refused 7 (whole inputSlice ∷ []))
     (bounded inputSlice (firstOutside searchLimit block)
     (bounded codewordsSlice (firstOutside searchLimit codewords)
-    (completed (nearest k n (rowOf k codewords) (vectorOf block))))))
+    (completed (marked k n (rowOf k codewords) (vectorOf block))))))
 
 unfoldable pub meanErrorAlone : ℕ → ℕ → List Float → List Float → Outcome Float
 meanErrorAlone n k codewords samples =
@@ -40,8 +44,8 @@ meanErrorAlone n k codewords samples =
     (completed (meanError k n (rowOf k codewords) (rowOf k samples) (length samples / k)))))))
 
 -- the answers
-abbrev pub nearestOf : NearestCodeword → Outcome Found
-nearestOf (Nearest f) = completed f
+abbrev pub nearestOf : NearestCodeword → Outcome Marked
+nearestOf (Nearest m) = completed m
 nearestOf (Refused r) = refusal r
 
 abbrev pub codebookErrorOf : CodebookError → Outcome Float

@@ -1,4 +1,3 @@
-pub mod Tournament
 pub mod Totals
 pub mod Watch
 pub mod Answers

@@ -1,21 +1,29 @@
 // Nearest and mean error of lloyd.rs, called alone.
 ghost use mathlib.Core.Path.{_≡_};
-ghost use Prim.Native.Nat.{_<_, _≤_, _+_, _*_, _^_};
+ghost use Prim.Native.Nat.{_<_, _≤_, _+_, _*_, _/_, _^_};
 ghost use mathlib.Core.Bool.{true};
 ghost use lib.ListN.{length};
+ghost use Rattle.error.specs.Numbers.{completed};
 ghost use Rattle.lloyd_search.specs.Distance.{vectorOf, rowOf};
-ghost use Rattle.lloyd_alone.specs.Tournament.{tournament};
-ghost use Rattle.lloyd_alone.specs.Watch.{Watches, Near, Small};
+ghost use Rattle.lloyd_search.specs.Choice.{markOf};
+ghost use Rattle.lloyd_alone.specs.Watch.{watched, watching, Sees, Small};
 ghost use Rattle.lloyd_alone.specs.Answers.{nearestAlone, meanErrorAlone, nearestOf, codebookErrorOf};
 use error::Refusal;
 use error::names;
+use lloyd_search::Choice;
 use lloyd_search::Found;
 use lloyd_search::Four;
 use slices::First;
 
+// The codeword found, and whether another has the same distance: the choice was a toss.
+pub struct Marked {
+    pub found: Found,
+    pub tied: bool,
+}
+
 // The answer of the search called alone.
 pub enum NearestCodeword {
-    Nearest(Found),
+    Nearest(Marked),
     Refused(Refusal),
 }
 
@@ -35,102 +43,83 @@ const NEAR_LIMIT: f64 =
 // The largest magnitude of a small value: 2 ^ 127.
 const SMALL_LIMIT: f64 = 170141183460469231731687303715884105728.0;
 
-// The nearest of four codewords, the first of which has this index; among equals the first. In pairs, which is faster
-// than in order; a NaN would show the difference.
-fn nearest_of_four(index: usize, four: Four) -> Found
-    requires { ⌜ index + 3 < 2 ^ 64 ⌝ }
-    ensures { λ r. ⌜ r ≡ tournament index four ⌝ }
-{
-    let low = lloyd_search::nearer(
-        Found {
-            index,
-            distance: four.first,
-        },
-        index + 1,
-        four.second,
-    );
-    let high = lloyd_search::nearer(
-        Found {
-            index: index + 2,
-            distance: four.third,
-        },
-        index + 3,
-        four.fourth,
-    );
-    lloyd_search::nearer(low, high.index, high.distance)
-}
-
-// The nearest of the codewords in whole fours, and the sum of their distances.
+// What is kept of the codewords passed: the choice among them, and the sums of every fourth distance.
 struct Watched {
-    best: Found,
-    total: f64,
+    best: Choice,
+    sums: Four,
 }
 
-// The nearest of the first 4 × fours codewords, and the sum of their distances, in four sums side by side. Where the
-// sum is small, so is every distance, and none is a NaN.
-fn watch_fours(codewords: &[f64], fours: usize, block: &[f64]) -> Watched
-    requires { ⌜ (fours * 4 < 2 ^ 64) × (fours * 4 * length (now block) ≤ length (now codewords)) ⌝ }
-    ensures { λ r. ⌜ Watches (length (now (block .entry))) fours
-        (rowOf (length (now (block .entry))) (now (codewords .entry))) (vectorOf (now (block .entry))) r ⌝ }
+// Four codewords more, the first of which has this number.
+fn watch(before: Watched, index: usize, four: Four) -> Watched
+    requires { ⌜ index + 3 < 2 ^ 64 ⌝ }
+    ensures { λ r. ⌜ r ≡ watching before index four ⌝ }
 {
-    let k = block.len();
-    let mut best = Found {
-        index: 0,
-        distance: f64::from_bits(ieee::INFINITY),
-    };
-    let mut first = 0.0;
-    let mut second = 0.0;
-    let mut third = 0.0;
-    let mut fourth = 0.0;
-    let mut i = 0usize;
-    let mut at = 0usize;
-    let mut turn = 0usize;
-    while turn < fours {
-        let at2 = at + k;
-        let at3 = at2 + k;
-        let at4 = at3 + k;
-        let end = at4 + k;
-        let four = lloyd_search::four_distances(
-            block,
-            &codewords[at..at2],
-            &codewords[at2..at3],
-            &codewords[at3..at4],
-            &codewords[at4..end],
-        );
-        first = first + four.first;
-        second = second + four.second;
-        third = third + four.third;
-        fourth = fourth + four.fourth;
-        let found = nearest_of_four(i, four);
-        best = lloyd_search::nearer(best, found.index, found.distance);
-        at = end;
-        i += 4usize;
-        turn += 1usize;
-    }
+    let best = before.best;
+    let sums = before.sums;
     Watched {
-        best,
-        total: (first + second) + (third + fourth),
+        best: lloyd_search::nearer_four(best, index, four),
+        sums: Four {
+            first: sums.first + four.first,
+            second: sums.second + four.second,
+            third: sums.third + four.third,
+            fourth: sums.fourth + four.fourth,
+        },
     }
 }
 
-// What a search has seen: whether every distance was near, which is below NEAR_LIMIT; and if so, the nearest codeword.
+// The first `count` codewords, which are whole fours, in the order of lloyd_search's own search.
+fn watch_fours(codewords: &[f64], count: usize, block: &[f64]) -> Watched
+    requires { ⌜ (count ≡ count / 4 * 4) × (count * length (now block) ≤ length (now codewords)) ⌝ }
+    ensures { λ r. ⌜ r ≡ watched (length (now (block .entry))) count
+        (rowOf (length (now (block .entry))) (now (codewords .entry))) (vectorOf (now (block .entry))) ⌝ }
+{
+    let mut before = Watched {
+        best: Choice {
+            found: Found {
+                index: 0,
+                distance: f64::from_bits(ieee::INFINITY),
+            },
+            last: 0,
+        },
+        sums: Four {
+            first: 0.0,
+            second: 0.0,
+            third: 0.0,
+            fourth: 0.0,
+        },
+    };
+    if count == 0 {
+        return before;
+    }
+    let mut four = lloyd_search::distances_from(codewords, 0, block);
+    let mut i = 0usize;
+    while i + 4 < count {
+        let next = lloyd_search::distances_from(codewords, i + 4, block);
+        before = watch(before, i, four);
+        four = next;
+        i += 4usize;
+    }
+    watch(before, i, four)
+}
+
+// What a search has seen: its choice, and whether every distance is known to be near, which is at most NEAR_LIMIT.
 struct Seen {
-    best: Found,
+    best: Choice,
     near: bool,
 }
 
-// `search` that also tells whether every distance was near; where one was not, the codeword it names may be another.
+// `search` that also tells whether every distance is known to be near.
 fn search_near(codewords: &[f64], n: usize, block: &[f64]) -> Seen
     requires { ⌜ length (now codewords) ≡ n * length (now block) ⌝ }
-    ensures { λ r. ⌜ (r .near ≡ true
-        → Near (length (now (block .entry))) n (rowOf (length (now (block .entry))) (now (codewords .entry)))
-        (vectorOf (now (block .entry))) (r .best)) ⌝ }
+    ensures { λ r. ⌜ Sees (length (now (block .entry))) n
+        (rowOf (length (now (block .entry))) (now (codewords .entry))) (vectorOf (now (block .entry))) r ⌝ }
 {
     let k = block.len();
-    let watched = watch_fours(codewords, n / 4, block);
-    let mut best = watched.best;
-    let mut near = watched.total < NEAR_LIMIT;
     let mut i = n / 4 * 4;
+    let watched = watch_fours(codewords, i, block);
+    let mut best = watched.best;
+    let sums = watched.sums;
+    let mut near = (sums.first + sums.second) + (sums.third + sums.fourth) < NEAR_LIMIT;
     let mut at = i * k;
     while i < n {
         let end = at + k;
@@ -157,7 +146,16 @@ fn small_distances(seen: Seen, block: &[f64]) -> bool
     }
 }
 
-// The codeword nearest to a block, with its distance; the first of equals.
+// The codeword that was chosen, marked.
+fn with_mark(choice: Choice) -> NearestCodeword
+    ensures { λ r. ⌜ nearestOf r ≡ completed (record { found = choice .found; tied = markOf choice }) ⌝ }
+{
+    let found = choice.found;
+    let tied = lloyd_search::is_tied(choice);
+    NearestCodeword::Nearest(Marked { found, tied })
+}
+
+// The codeword nearest to a block, with its distance, the first of equals; and whether another has the same distance.
 // Where the distances are small, they spare the scan of all codewords.
 pub fn nearest_index(
     codewords: &[f64],
@@ -177,7 +175,7 @@ pub fn nearest_index(
     let seen = search_near(codewords, codebook_size as usize, block);
     let best = seen.best;
     if small_distances(seen, block) {
-        return NearestCodeword::Nearest(best);
+        return with_mark(best);
     }
     let bad = slices::first_outside(block, SEARCH_LIMIT);
     if let First::At(place) = bad {
@@ -193,7 +191,7 @@ pub fn nearest_index(
             place: place as u64,
         });
     }
-    NearestCodeword::Nearest(lloyd_search::search(codewords, codebook_size as usize, block))
+    with_mark(best)
 }
 
 // The mean of the samples' distances to their nearest codewords.

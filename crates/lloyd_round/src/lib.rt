@@ -54,7 +54,8 @@ fn clear(work: &mut [f64], ints: &mut [u32], n: usize, k: usize)
     slices::zero_u32(ints);
 }
 
-// The number of a sample's nearest codeword, and its distance to that, also where no distance is below infinity.
+// The number of a sample's nearest codeword, and its distance to that. Where no distance is below infinity, the search's
+// own is infinity, and the distance is worked out once more.
 fn nearest_cell(work: &[f64], n: usize, sample: &[f64]) -> Found
     requires { ⌜ (0 < n) × (n * length (now sample) ≤ length (now work)) ⌝ }
     ensures { λ r. ⌜ r ≡ nearestIn n (length (now (sample .entry)))
@@ -63,7 +64,11 @@ fn nearest_cell(work: &[f64], n: usize, sample: &[f64]) -> Found
     let k = sample.len();
     let words = n * k;
     let codewords = &work[..words];
-    let found = lloyd_search::search(codewords, n, sample);
+    let choice = lloyd_search::search(codewords, n, sample);
+    let found = choice.found;
+    if found.distance < f64::from_bits(ieee::INFINITY) {
+        return found;
+    }
     let index = found.index;
     let from = index * k;
     let to = from + k;

@@ -1,6 +1,7 @@
 pub mod Parts
 pub mod ShapeLaw
 pub mod NearestLaw
+pub mod TieLaw
 pub mod LimitLaw
 pub mod WithinLaw
 pub mod FiniteLaw

@@ -6,17 +6,19 @@ use native.Mathlib.Nat.{zero-lt-suc, lt-suc-self, le-step, le-of-eq, le-trans, l
 use native.Mathlib.Omega.{arith}
 use native.Mathlib.Numerals.{add-one}
 use mathlib.Core.Bool.{Bool, true, false, not}
-use lib.Dec.{T}
+use lib.Dec.{T, T-not}
 use lib.Ieee.{Float, inf, lt}
 use lib.Ieee.Scale.{finite}
 use Rattle.ieee.proofs.Order.{cut-lt, lt-asym, lt-irr, finite-lt-inf}
 use Rattle.slices.proofs.FirstLaw.{below-suc}
 use Rattle.lloyd_search.specs.declared.Found.{Found}
+use Rattle.lloyd_search.specs.declared.Choice.{Choice}
 use Rattle.lloyd_search.specs.Nearest.{firstLeast, pick, Least}
+use Rattle.lloyd_search.specs.Choice.{lastLeast, choice, passing}
 
 -- ---- one more codeword of a loop
-pub one-more : (d : ℕ → Float) (i j : ℕ) (best r : Found) (x : Float) → j ≡ i + 1 → best ≡ firstLeast d i → x ≡ d i → r ≡ pick (lt x (best .distance)) (record { index = i; distance = x }) best → r ≡ firstLeast d j
-unfolding firstLeast
+pub one-more : (d : ℕ → Float) (i j : ℕ) (best r : Choice) (x : Float) → j ≡ i + 1 → best ≡ choice d i → x ≡ d i → r ≡ passing best i x → r ≡ choice d j
+unfolding firstLeast lastLeast
 one-more d i j best r x next h e k = k ∙ rw (next, add-one, h, e)
 
 -- ---- what is found
@@ -61,6 +63,17 @@ module _ (d : ℕ → Float) where
   pub first-least : (n : ℕ) → 1 ≤ n → ((i : ℕ) → i < n → T (finite (d i))) → Least d n (firstLeast d n)
   first-least zero h fine = absurd (omega arith)
   first-least (suc n) h fine = least-of n fine
+
+-- ---- a distance found below infinity is that of its codeword, whatever the distances
+pub found-is : (d : ℕ → Float) (n : ℕ) → T (lt (firstLeast d n .distance) (inf false)) → firstLeast d n .distance ≡ d (firstLeast d n .index)
+unfolding firstLeast
+found-is d zero h = absurd (T-not (lt (inf false) (inf false)) (lt-irr (inf false)) h)
+found-is d (suc n) h = go (lt (d n) (firstLeast d n .distance)) (firstLeast d n) (found-is d n) h
+  where
+    go : (b : Bool) (r : Found) → (T (lt (r .distance) (inf false)) → r .distance ≡ d (r .index)) → T (lt (pick b (record { index = n; distance = d n }) r .distance) (inf false))
+        → pick b (record { index = n; distance = d n }) r .distance ≡ d (pick b (record { index = n; distance = d n }) r .index)
+    go true r f t = refl
+    go false r f t = f t
 
 -- ---- an index is below the number of codewords, whatever the distances
 picked : (b : Bool) (f : Found) (n : ℕ) (x : Float) → f .index ≤ n → pick b (record { index = n; distance = x }) f .index ≤ n

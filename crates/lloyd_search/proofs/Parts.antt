@@ -11,6 +11,7 @@ use Rattle.ieee.proofs.Bound.{sumTo-ext}
 use Rattle.lloyd_search.specs.Distance.{distance, vectorOf, rowOf}
 use Rattle.ieee.specs.Sum.{squaredDifference}
 use Rattle.lloyd_search.specs.Nearest.{firstLeast, nearest}
+use Rattle.lloyd_search.specs.Choice.{lastLeast, chosen}
 
 -- row i of n lies within the list
 pub row-fits : (i n k at L : ℕ) → i < n → at ≡ i * k → L ≡ n * k → at + k ≤ L
@@ -63,9 +64,19 @@ firstLeast-ext d e (suc n) h = rw (firstLeast-ext d e n (λ i l. h i (le-step l)
 pub nearest-ext : (k n : ℕ) (book : ℕ → ℕ → Float) (x y : ℕ → Float) → ((j : ℕ) → j < k → x j ≡ y j) → nearest k n book x ≡ nearest k n book y
 nearest-ext k n book x y h = firstLeast-ext (λ i. distance k x (book i)) (λ i. distance k y (book i)) n (λ i l. distance-ext k x (book i) y (book i) h (λ j m. refl))
 
--- the codeword nearest to a part is that nearest to the row
-pub part-nearest : (codewords xs : List Float) (n i k at : ℕ) → at ≡ i * k → at + k ≤ length xs
-    → nearest (length (take (at + k - at) (drop at xs))) n (rowOf (length (take (at + k - at) (drop at xs))) codewords) (vectorOf (take (at + k - at) (drop at xs))) ≡ nearest k n (rowOf k codewords) (rowOf k xs i)
-part-nearest codewords xs n i k at is h =
+lastLeast-ext : (d e : ℕ → Float) (n : ℕ) → ((i : ℕ) → i < n → d i ≡ e i) → lastLeast d n ≡ lastLeast e n
+unfolding lastLeast
+lastLeast-ext d e zero h = refl
+lastLeast-ext d e (suc n) h = rw (lastLeast-ext d e n (λ i l. h i (le-step l)), firstLeast-ext d e n (λ i l. h i (le-step l)), h n (lt-suc-self n))
+
+pub chosen-ext : (k n : ℕ) (book : ℕ → ℕ → Float) (x y : ℕ → Float) → ((j : ℕ) → j < k → x j ≡ y j) → chosen k n book x ≡ chosen k n book y
+chosen-ext k n book x y h =
+    let far : (i : ℕ) → i < n → distance k x (book i) ≡ distance k y (book i) = λ i l. distance-ext k x (book i) y (book i) h (λ j m. refl) in
+    rw (firstLeast-ext (λ i. distance k x (book i)) (λ i. distance k y (book i)) n far, lastLeast-ext (λ i. distance k x (book i)) (λ i. distance k y (book i)) n far)
+
+-- the choice for a part is that for the row
+pub part-chosen : (codewords xs : List Float) (n i k at : ℕ) → at ≡ i * k → at + k ≤ length xs
+    → chosen (length (take (at + k - at) (drop at xs))) n (rowOf (length (take (at + k - at) (drop at xs))) codewords) (vectorOf (take (at + k - at) (drop at xs))) ≡ chosen k n (rowOf k codewords) (rowOf k xs i)
+part-chosen codewords xs n i k at is h =
     let x : ℕ → Float = vectorOf (take (at + k - at) (drop at xs)) in
-    ap (λ (m : ℕ). nearest m n (rowOf m codewords) x) (part-length xs i k at is h) ∙ nearest-ext k n (rowOf k codewords) x (rowOf k xs i) (part-row xs i k at is)
+    ap (λ (m : ℕ). chosen m n (rowOf m codewords) x) (part-length xs i k at is h) ∙ chosen-ext k n (rowOf k codewords) x (rowOf k xs i) (part-row xs i k at is)

@@ -1,10 +1,10 @@
 // The search of lloyd.rs: the squared distance, the nearest codeword and the mean error of a codebook.
 ghost use mathlib.Core.Path.{_≡_};
-ghost use Prim.Native.Nat.{_<_, _≤_, _*_, _/_, _^_};
+ghost use Prim.Native.Nat.{_<_, _≤_, _+_, _*_, _/_, _^_};
 ghost use lib.ListN.{length};
-ghost use lib.Ieee.{lt};
 ghost use Rattle.lloyd_search.specs.Distance.{distance, vectorOf, rowOf};
-ghost use Rattle.lloyd_search.specs.Nearest.{pick, nearest, meanError};
+ghost use Rattle.lloyd_search.specs.Nearest.{meanError};
+ghost use Rattle.lloyd_search.specs.Choice.{passing, passingFour, markOf, chosen};
 ghost use Rattle.lloyd_search.specs.Four.{Distances};
 ghost use Rattle.lloyd_search.specs.Shape.{codebookShaped, samplesShaped};
 use profile::FibQuantProfile;
@@ -13,6 +13,13 @@ use profile::FibQuantProfile;
 pub struct Found {
     pub index: usize,
     pub distance: f64,
+}
+
+// What a search keeps: the codeword chosen, and the number of the last
+// that is as near, which is another's where the choice was a toss.
+pub struct Choice {
+    pub found: Found,
+    pub last: usize,
 }
 
 // Public only for the crates above: the squared distance of two vectors of one length.
@@ -71,64 +78,105 @@ pub fn four_distances(block: &[f64], a: &[f64], b: &[f64], c: &[f64], d: &[f64])
     }
 }
 
-// Public only for the crates above: the nearer of the best so far and one more codeword; among equals the best so far.
-pub fn nearer(best: Found, index: usize, distance: f64) -> Found
-    ensures { λ r. ⌜ r ≡ pick (lt distance (best .distance)) (record { index = index; distance = distance }) best ⌝ }
+// Public only for the crates above: the choice after one more codeword. An equal one leaves the codeword found, and
+// becomes the last.
+pub fn nearer(best: Choice, index: usize, distance: f64) -> Choice
+    ensures { λ r. ⌜ r ≡ passing best index distance ⌝ }
 {
-    if distance < best.distance {
-        Found { index, distance }
+    let found = best.found;
+    let mut last = best.last;
+    if distance <= found.distance {
+        last = index;
+    }
+    if distance < found.distance {
+        Choice {
+            found: Found { index, distance },
+            last,
+        }
     } else {
-        best
+        Choice { found, last }
     }
 }
 
-// The nearest of the first 4 × fours codewords.
-fn search_fours(codewords: &[f64], fours: usize, block: &[f64]) -> Found
-    requires { ⌜ (fours * 4 < 2 ^ 64) × (fours * 4 * length (now block) ≤ length (now codewords)) ⌝ }
-    ensures { λ r. ⌜ r ≡ nearest (length (now (block .entry))) (fours * 4)
-        (rowOf (length (now (block .entry))) (now (codewords .entry))) (vectorOf (now (block .entry))) ⌝ }
+// Public only for the crates above: the mark of a choice, that another codeword is as near.
+pub fn is_tied(choice: Choice) -> bool
+    ensures { λ r. ⌜ r ≡ markOf choice ⌝ }
+{
+    choice.last != choice.found.index
+}
+
+// Public only for the crates above: the squared distances of a block to four codewords, the first of which has this
+// number.
+pub fn distances_from(codewords: &[f64], index: usize, block: &[f64]) -> Four
+    requires { ⌜ (index + 4) * length (now block) ≤ length (now codewords) ⌝ }
+    ensures { λ r. ⌜ (let row = rowOf (length (now (block .entry))) (now (codewords .entry)) in
+        Distances (length (now (block .entry))) (vectorOf (now (block .entry)))
+        (row index) (row (index + 1)) (row (index + 2)) (row (index + 3)) r) ⌝ }
 {
     let k = block.len();
-    let mut best = Found {
-        index: 0,
-        distance: f64::from_bits(ieee::INFINITY),
+    let at = index * k;
+    let at2 = at + k;
+    let at3 = at2 + k;
+    let at4 = at3 + k;
+    let end = at4 + k;
+    four_distances(
+        block,
+        &codewords[at..at2],
+        &codewords[at2..at3],
+        &codewords[at3..at4],
+        &codewords[at4..end],
+    )
+}
+
+// Public only for the crates above: the choice after four more codewords, the first of which has this number.
+pub fn nearer_four(best: Choice, index: usize, four: Four) -> Choice
+    requires { ⌜ index + 3 < 2 ^ 64 ⌝ }
+    ensures { λ r. ⌜ r ≡ passingFour best index four ⌝ }
+{
+    let one = nearer(best, index, four.first);
+    let two = nearer(one, index + 1, four.second);
+    let three = nearer(two, index + 2, four.third);
+    nearer(three, index + 3, four.fourth)
+}
+
+// The choice among the first `count` codewords, which are whole fours. The next four distances are under way while those
+// before them are compared, which a processor can do side by side.
+fn search_fours(codewords: &[f64], count: usize, block: &[f64]) -> Choice
+    requires { ⌜ (count ≡ count / 4 * 4) × (count * length (now block) ≤ length (now codewords)) ⌝ }
+    ensures { λ r. ⌜ r ≡ chosen (length (now (block .entry))) count
+        (rowOf (length (now (block .entry))) (now (codewords .entry))) (vectorOf (now (block .entry))) ⌝ }
+{
+    let mut best = Choice {
+        found: Found {
+            index: 0,
+            distance: f64::from_bits(ieee::INFINITY),
+        },
+        last: 0,
     };
-    let mut i = 0usize;
-    let mut at = 0usize;
-    let mut turn = 0usize;
-    while turn < fours {
-        let at2 = at + k;
-        let at3 = at2 + k;
-        let at4 = at3 + k;
-        let end = at4 + k;
-        let four = four_distances(
-            block,
-            &codewords[at..at2],
-            &codewords[at2..at3],
-            &codewords[at3..at4],
-            &codewords[at4..end],
-        );
-        best = nearer(best, i, four.first);
-        best = nearer(best, i + 1, four.second);
-        best = nearer(best, i + 2, four.third);
-        best = nearer(best, i + 3, four.fourth);
-        at = end;
-        i += 4usize;
-        turn += 1usize;
+    if count == 0 {
+        return best;
     }
-    best
+    let mut four = distances_from(codewords, 0, block);
+    let mut i = 0usize;
+    while i + 4 < count {
+        let next = distances_from(codewords, i + 4, block);
+        best = nearer_four(best, i, four);
+        four = next;
+        i += 4usize;
+    }
+    nearer_four(best, i, four)
 }
 
-// Public only for the crates above: the nearest of n codewords that
+// Public only for the crates above: the choice among n codewords that
 // stand one after another, four at a time and then one at a time.
-pub fn search(codewords: &[f64], n: usize, block: &[f64]) -> Found
+pub fn search(codewords: &[f64], n: usize, block: &[f64]) -> Choice
     requires { ⌜ length (now codewords) ≡ n * length (now block) ⌝ }
-    ensures { λ r. ⌜ r ≡ nearest (length (now (block .entry))) n
+    ensures { λ r. ⌜ r ≡ chosen (length (now (block .entry))) n
         (rowOf (length (now (block .entry))) (now (codewords .entry))) (vectorOf (now (block .entry))) ⌝ }
 {
     let k = block.len();
-    let mut best = search_fours(codewords, n / 4, block);
     let mut i = n / 4 * 4;
+    let mut best = search_fours(codewords, i, block);
     let mut at = i * k;
     while i < n {
         let end = at + k;
@@ -152,8 +200,8 @@ pub fn mean_error(codewords: &[f64], n: usize, k: usize, samples: &[f64]) -> f64
     let mut at = 0usize;
     while s < count {
         let end = at + k;
-        let found = search(codewords, n, &samples[at..end]);
-        sum = sum + found.distance;
+        let choice = search(codewords, n, &samples[at..end]);
+        sum = sum + choice.found.distance;
         at = end;
         s += 1usize;
     }

@@ -9,11 +9,11 @@ use lib.ListN.{length, getD, take, drop}
 use lib.Seq.{getD-take, getD-drop}
 use lib.Ieee.{Float, nan}
 use Rattle.lloyd_search.specs.declared.Four.{Four}
-use Rattle.lloyd_search_f32.specs.declared.FourFound.{FourFound}
+use Rattle.lloyd_search_f32.specs.declared.FourChoices.{FourChoices}
 use Rattle.lloyd_search.specs.Distance.{vectorOf, rowOf}
-use Rattle.lloyd_search.specs.Nearest.{nearest}
-use Rattle.lloyd_search_f32.specs.Four.{DistancesTo, FourNearest}
-use Rattle.lloyd_search.proofs.Parts.{row-place, part-length, parts-distance, nearest-ext}
+use Rattle.lloyd_search.specs.Choice.{chosen}
+use Rattle.lloyd_search_f32.specs.Four.{DistancesTo, FourChosen}
+use Rattle.lloyd_search.proofs.Parts.{row-place, part-length, parts-distance, chosen-ext}
 
 -- the part of k values from `at` on
 abbrev part : List Float → ℕ → ℕ → List Float
@@ -44,15 +44,15 @@ rows-of-part xs i m k at is h j l =
     let e : at + (m * k + j) ≡ (i + m) * k + j = omega (arith, add-mul i m k) in
     rw cut (getD-take (4 * k) (drop at xs) (m * k + j) nan b ∙ getD-drop at xs (m * k + j) nan ∙ ap (λ (z : ℕ). getD xs z nan) e)
 
--- the codeword nearest to a block of the part is that nearest to the row
-row-nearest : (book : ℕ → ℕ → Float) (xs : List Float) (n i m k at : ℕ) → at ≡ i * k → m < 4 → nearest k n book (rowOf k (take (at + 4 * k - at) (drop at xs)) m) ≡ nearest k n book (rowOf k xs (i + m))
-row-nearest book xs n i m k at is h = nearest-ext k n book _ _ (rows-of-part xs i m k at is h)
+-- the choice for a block of the part is that for the row
+row-chosen : (book : ℕ → ℕ → Float) (xs : List Float) (n i m k at : ℕ) → at ≡ i * k → m < 4 → chosen k n book (rowOf k (take (at + 4 * k - at) (drop at xs)) m) ≡ chosen k n book (rowOf k xs (i + m))
+row-chosen book xs n i m k at is h = chosen-ext k n book _ _ (rows-of-part xs i m k at is h)
 
-pub part-four-nearest : (book : ℕ → ℕ → Float) (xs : List Float) (n i k at : ℕ) (r : FourFound) → at ≡ i * k → FourNearest k n book (rowOf k (take (at + 4 * k - at) (drop at xs))) r
-    → FourNearest k n book (λ m. rowOf k xs (i + m)) r
-part-four-nearest book xs n i k at r is h = record {
-  for-first = h .for-first ∙ row-nearest book xs n i 0 k at is (lit< tt);
-  for-second = h .for-second ∙ row-nearest book xs n i 1 k at is (lit< tt);
-  for-third = h .for-third ∙ row-nearest book xs n i 2 k at is (lit< tt);
-  for-fourth = h .for-fourth ∙ row-nearest book xs n i 3 k at is (lit< tt);
+pub part-four-chosen : (book : ℕ → ℕ → Float) (xs : List Float) (n i k at : ℕ) (r : FourChoices) → at ≡ i * k → FourChosen k n book (rowOf k (take (at + 4 * k - at) (drop at xs))) r
+    → FourChosen k n book (λ m. rowOf k xs (i + m)) r
+part-four-chosen book xs n i k at r is h = record {
+  for-first = h .for-first ∙ row-chosen book xs n i 0 k at is (lit< tt);
+  for-second = h .for-second ∙ row-chosen book xs n i 1 k at is (lit< tt);
+  for-third = h .for-third ∙ row-chosen book xs n i 2 k at is (lit< tt);
+  for-fourth = h .for-fourth ∙ row-chosen book xs n i 3 k at is (lit< tt);
 }

@@ -3,9 +3,9 @@ use mathlib.Core.Path.{_≡_}
 use Prim.Native.Nat.{ℕ}
 use lib.Ieee.{Float}
 use Rattle.lloyd_search.specs.declared.Four.{Four}
-use Rattle.lloyd_search_f32.specs.declared.FourFound.{FourFound}
+use Rattle.lloyd_search_f32.specs.declared.FourChoices.{FourChoices}
 use Rattle.lloyd_search.specs.Distance.{distance}
-use Rattle.lloyd_search.specs.Nearest.{nearest}
+use Rattle.lloyd_search.specs.Choice.{chosen}
 
 -- the distances of a, b, c and d to y
 pub record DistancesTo (k : ℕ) (y a b c d : ℕ → Float) (r : Four) : Type 0 where
@@ -14,9 +14,9 @@ pub record DistancesTo (k : ℕ) (y a b c d : ℕ → Float) (r : Four) : Type 0
   pub of-third : r .third ≡ distance k c y
   pub of-fourth : r .fourth ≡ distance k d y
 
--- the codewords, of n with k coordinates each, that are nearest to the first four of the blocks
-pub record FourNearest (k n : ℕ) (book blocks : ℕ → ℕ → Float) (r : FourFound) : Type 0 where
-  pub for-first : r .first ≡ nearest k n book (blocks 0)
-  pub for-second : r .second ≡ nearest k n book (blocks 1)
-  pub for-third : r .third ≡ nearest k n book (blocks 2)
-  pub for-fourth : r .fourth ≡ nearest k n book (blocks 3)
+-- the choices, among n codewords with k coordinates each, for the first four of the blocks
+pub record FourChosen (k n : ℕ) (book blocks : ℕ → ℕ → Float) (r : FourChoices) : Type 0 where
+  pub for-first : r .first ≡ chosen k n book (blocks 0)
+  pub for-second : r .second ≡ chosen k n book (blocks 1)
+  pub for-third : r .third ≡ chosen k n book (blocks 2)
+  pub for-fourth : r .fourth ≡ chosen k n book (blocks 3)

@@ -1,12 +1,13 @@
 // The search over codewords of finite binary32 values, widened to binary64: what the encoder asks for.
 ghost use mathlib.Core.Path.{_≡_};
-ghost use Prim.Native.Nat.{_<_, _≤_, _*_, _^_};
+ghost use Prim.Native.Nat.{_≤_, _+_, _*_, _/_};
 ghost use lib.ListN.{length};
 ghost use Rattle.lloyd_search.specs.Distance.{distance, vectorOf, rowOf};
-ghost use Rattle.lloyd_search.specs.Nearest.{nearest};
+ghost use Rattle.lloyd_search.specs.Choice.{chosen};
 ghost use Rattle.lloyd_search.specs.Four.{Distances};
 ghost use Rattle.lloyd_search_f32.specs.Finite.{FiniteValues};
-ghost use Rattle.lloyd_search_f32.specs.Four.{DistancesTo, FourNearest};
+ghost use Rattle.lloyd_search_f32.specs.Four.{DistancesTo, FourChosen};
+use lloyd_search::Choice;
 use lloyd_search::Found;
 use lloyd_search::Four;
 
@@ -58,53 +59,59 @@ fn four_distances_f32(block: &[f64], a: &[f32], b: &[f32], c: &[f32], d: &[f32])
     }
 }
 
-// `search_fours` over codewords of finite binary32 values, widened.
-fn search_fours_f32(codewords: &[f32], fours: usize, block: &[f64]) -> Found
-    requires { ⌜ (fours * 4 < 2 ^ 64) × (fours * 4 * length (now block) ≤ length (now codewords))
-        × FiniteValues (now codewords) ⌝ }
-    ensures { λ r. ⌜ r ≡ nearest (length (now (block .entry))) (fours * 4)
-        (rowOf (length (now (block .entry))) (now (codewords .entry))) (vectorOf (now (block .entry))) ⌝ }
+// `distances_from` over codewords of finite binary32 values, widened.
+fn distances_from_f32(codewords: &[f32], index: usize, block: &[f64]) -> Four
+    requires { ⌜ ((index + 4) * length (now block) ≤ length (now codewords)) × FiniteValues (now codewords) ⌝ }
+    ensures { λ r. ⌜ (let row = rowOf (length (now (block .entry))) (now (codewords .entry)) in
+        Distances (length (now (block .entry))) (vectorOf (now (block .entry)))
+        (row index) (row (index + 1)) (row (index + 2)) (row (index + 3)) r) ⌝ }
 {
     let k = block.len();
-    let mut best = Found {
-        index: 0,
-        distance: f64::from_bits(ieee::INFINITY),
+    let at = index * k;
+    let at2 = at + k;
+    let at3 = at2 + k;
+    let at4 = at3 + k;
+    let end = at4 + k;
+    four_distances_f32(
+        block,
+        &codewords[at..at2],
+        &codewords[at2..at3],
+        &codewords[at3..at4],
+        &codewords[at4..end],
+    )
+}
+
+// `search_fours` over codewords of finite binary32 values, widened.
+fn search_fours_f32(codewords: &[f32], count: usize, block: &[f64]) -> Choice
+    requires { ⌜ (count ≡ count / 4 * 4) × (count * length (now block) ≤ length (now codewords))
+        × FiniteValues (now codewords) ⌝ }
+    ensures { λ r. ⌜ r ≡ chosen (length (now (block .entry))) count
+        (rowOf (length (now (block .entry))) (now (codewords .entry))) (vectorOf (now (block .entry))) ⌝ }
+{
+    let mut best = Choice {
+        found: Found {
+            index: 0,
+            distance: f64::from_bits(ieee::INFINITY),
+        },
+        last: 0,
     };
     let mut i = 0usize;
-    let mut at = 0usize;
-    let mut turn = 0usize;
-    while turn < fours {
-        let at2 = at + k;
-        let at3 = at2 + k;
-        let at4 = at3 + k;
-        let end = at4 + k;
-        let four = four_distances_f32(
-            block,
-            &codewords[at..at2],
-            &codewords[at2..at3],
-            &codewords[at3..at4],
-            &codewords[at4..end],
-        );
-        let one = lloyd_search::nearer(best, i, four.first);
-        let two = lloyd_search::nearer(one, i + 1, four.second);
-        let three = lloyd_search::nearer(two, i + 2, four.third);
-        best = lloyd_search::nearer(three, i + 3, four.fourth);
-        at = end;
+    while i < count {
+        best = lloyd_search::nearer_four(best, i, distances_from_f32(codewords, i, block));
         i += 4usize;
-        turn += 1usize;
     }
     best
 }
 
 // Public only for the crates above: `search` over codewords of finite binary32 values, widened.
-pub fn search_f32(codewords: &[f32], n: usize, block: &[f64]) -> Found
+pub fn search_f32(codewords: &[f32], n: usize, block: &[f64]) -> Choice
     requires { ⌜ (length (now codewords) ≡ n * length (now block)) × FiniteValues (now codewords) ⌝ }
-    ensures { λ r. ⌜ r ≡ nearest (length (now (block .entry))) n
+    ensures { λ r. ⌜ r ≡ chosen (length (now (block .entry))) n
         (rowOf (length (now (block .entry))) (now (codewords .entry))) (vectorOf (now (block .entry))) ⌝ }
 {
     let k = block.len();
-    let mut best = search_fours_f32(codewords, n / 4, block);
     let mut i = n / 4 * 4;
+    let mut best = search_fours_f32(codewords, i, block);
     let mut at = i * k;
     while i < n {
         let end = at + k;
@@ -149,18 +156,18 @@ fn distances_of_four_f32(codeword: &[f32], a: &[f64], b: &[f64], c: &[f64], d: &
     }
 }
 
-// What is found for four blocks.
-pub struct FourFound {
-    pub first: Found,
-    pub second: Found,
-    pub third: Found,
-    pub fourth: Found,
+// The choices for four blocks.
+pub struct FourChoices {
+    pub first: Choice,
+    pub second: Choice,
+    pub third: Choice,
+    pub fourth: Choice,
 }
 
 // Public only for the crates above: `search_f32` for four blocks of k values that stand one after another.
-pub fn search_four_f32(codewords: &[f32], n: usize, k: usize, blocks: &[f64]) -> FourFound
+pub fn search_four_f32(codewords: &[f32], n: usize, k: usize, blocks: &[f64]) -> FourChoices
     requires { ⌜ (length (now codewords) ≡ n * k) × (length (now blocks) ≡ 4 * k) × FiniteValues (now codewords) ⌝ }
-    ensures { λ r. ⌜ FourNearest k n (rowOf k (now (codewords .entry))) (rowOf k (now (blocks .entry))) r ⌝ }
+    ensures { λ r. ⌜ FourChosen k n (rowOf k (now (codewords .entry))) (rowOf k (now (blocks .entry))) r ⌝ }
 {
     let two = k + k;
     let three = two + k;
@@ -169,9 +176,12 @@ pub fn search_four_f32(codewords: &[f32], n: usize, k: usize, blocks: &[f64]) ->
     let b = &blocks[k..two];
     let c = &blocks[two..three];
     let d = &blocks[three..four];
-    let none = Found {
-        index: 0,
-        distance: f64::from_bits(ieee::INFINITY),
+    let none = Choice {
+        found: Found {
+            index: 0,
+            distance: f64::from_bits(ieee::INFINITY),
+        },
+        last: 0,
     };
     let mut first = none;
     let mut second = none;
@@ -189,7 +199,7 @@ pub fn search_four_f32(codewords: &[f32], n: usize, k: usize, blocks: &[f64]) ->
         at = end;
         i += 1usize;
     }
-    FourFound {
+    FourChoices {
         first,
         second,
         third,

@@ -57,7 +57,9 @@ pub fn nearest(file: &[u8], r: Reader) -> Verdict {
     let distance = reader::number(file, index.next, 8);
     let values = parts::doubles(&codewords, n);
     match lloyd_alone::nearest_index(values, size.value, dim.value, parts::doubles(&block, m)) {
-        NearestCodeword::Nearest(found) => {
+        // The Rust has no mark to compare with.
+        NearestCodeword::Nearest(marked) => {
+            let found = marked.found;
             let same_index = found.index as u64 == index.value;
             let same_distance = patterns::f64_bits(found.distance) == distance.value;
             let both = if same_index { same_distance } else { false };

@@ -1,22 +1,25 @@
 -- `lloyd_alone::nearest_index` meets its contract: the checks in their order, and the search; small distances show what
 -- the checks of magnitude would. Assumes nothing.
 use mathlib.Core.Path.{_≡_, refl, sym, ap, _∙_}
-use mathlib.Core.Bool.{true, false}
+use mathlib.Core.Bool.{Bool, true, false}
 use Prim.Native.Nat.{ℕ, _*_}
 use lib.Dec.{eqb}
 use lib.ListN.{length}
-use lib.Ieee.{ofBits}
+use lib.Ieee.{Float, ofBits}
 use borrow.Author.Needs.{needs}
 use borrow.Author.Tests.{not-true, not-false, eq-eqb, ne-eqb}
-use Rattle.error.specs.Numbers.{completed}
+use Rattle.error.specs.Numbers.{Outcome, completed}
 use Rattle.slices.specs.declared.First.the-variants.{Nowhere}
 use Rattle.slices.specs.Limit.{firstOutside}
-use Rattle.lloyd_search.specs.declared.Found.{Found}
-use Rattle.lloyd_search.specs.Distance.{vectorOf, rowOf}
+use Rattle.lloyd_search.specs.declared.Choice.{Choice}
+use Rattle.lloyd_alone.specs.declared.Marked.{Marked}
+use Rattle.lloyd_search.specs.Distance.{distance, vectorOf, rowOf}
 use Rattle.lloyd_search.specs.Nearest.{nearest}
+use Rattle.lloyd_search.specs.Choice.{chosen, markOf}
 use Rattle.lloyd_search.specs.Shape.{codebookShaped}
-use Rattle.lloyd_alone.specs.Answers.{searchLimit, nearestAlone}
+use Rattle.lloyd_alone.specs.Answers.{searchLimit, marked, nearestAlone}
 use Rattle.lloyd_search.proofs.ShapeLaw.{codebook-shape}
+use Rattle.lloyd_search.proofs.TieLaw.{mark-means}
 use Rattle.lloyd_alone.proofs.SmallLaw.{codewords-within}
 use Rattle.lloyd_alone.proofs.nearest_index.Statement.{statement}
 use Rattle.lloyd_alone.proofs.nearest_index.Tie as tie
@@ -52,27 +55,38 @@ codewords-shape c =
 search-near-requires : tie.Need-search-near-requires
 search-near-requires c κs = codewords-shape c
 
--- what a search finds over rows of the block's length
-found : (c : tie.Else2) (r : Found) →
+-- the answer, over rows of the block's length
+answer : (c : tie.Else2) (best : Choice) (r : Outcome Marked) →
     let a = c .before .before .before .before .before .args in
     let k = length (a .block .now) in
-    r ≡ nearest k (a .codebook-size) (rowOf k (a .codewords .now)) (vectorOf (a .block .now)) → r ≡ nearest (a .block-dim) (a .codebook-size) (rowOf (a .block-dim) (a .codewords .now)) (vectorOf (a .block .now))
-found c r e = let a = c .before .before .before .before .before .args in e ∙ ap (λ (m : ℕ). nearest m (a .codebook-size) (rowOf m (a .codewords .now)) (vectorOf (a .block .now))) (c .if2 .left)
+    best ≡ chosen k (a .codebook-size) (rowOf k (a .codewords .now)) (vectorOf (a .block .now)) → r ≡ completed (record { found = best .found; tied = markOf best })
+    → r ≡ completed (marked (a .block-dim) (a .codebook-size) (rowOf (a .block-dim) (a .codewords .now)) (vectorOf (a .block .now)))
+answer c best r e h =
+    let a = c .before .before .before .before .before .args in
+    let k = length (a .block .now) in
+    let far : ℕ → Float = λ i. distance k (vectorOf (a .block .now)) (rowOf k (a .codewords .now) i) in
+    h
+    ∙ ap (λ (b : Choice). completed (record { found = b .found; tied = markOf b })) e
+    ∙ ap (λ (t : Bool). completed (record { found = nearest k (a .codebook-size) (rowOf k (a .codewords .now)) (vectorOf (a .block .now)); tied = t })) (mark-means far (a .codebook-size))
+    ∙ ap (λ (m : ℕ). completed (marked m (a .codebook-size) (rowOf m (a .codewords .now)) (vectorOf (a .block .now)))) (c .if2 .left)
 
 small-distances-requires : tie.Need-small-distances-requires
 small-distances-requires c κs = search needs
 
+with-mark-requires : tie.Need-with-mark-requires
+with-mark-requires c κs = search needs
+
 returns-3 : tie.Need-returns-3
 unfolding nearestAlone
 returns-3 c =
-    let s = c .before .before .before in
+    let t = c .before in
+    let s = t .before .before .before in
     let h = s .before in
     let a = h .before .before .before .before .before .args in
     let k = length (a .block .now) in
-    let small = c .before .small-distances .ensures (c .if3 .taken) in
-    let seen = s .search-near .ensures (small .all-near) in
-    let clean = codewords-within k (a .codebook-size) (a .codewords .now) (a .block .now) (codewords-shape h) refl (small .block-small) (seen .near) in
-    rw (shaped (h .before), long h, clean .0, clean .1) (ap completed (found h (s .search-near .result .best) (seen .best-is)))
+    let small = t .before .small-distances .ensures (t .if3 .taken) in
+    let clean = codewords-within k (a .codebook-size) (a .codewords .now) (a .block .now) (codewords-shape h) refl (small .block-small) (s .search-near .ensures .where-near (small .all-near)) in
+    rw (shaped (h .before), long h, clean .0, clean .1) (answer h (s .search-near .result .best) _ (s .search-near .ensures .best-is) (c .with-mark .ensures))
 
 first-outside-requires : tie.Need-first-outside-requires
 first-outside-requires c κs = search needs
@@ -111,16 +125,17 @@ returns-5 c =
 enum-told-2 : tie.Need-enum-told-2
 enum-told-2 c = search needs
 
-search-requires : tie.Need-search-requires
-search-requires c κs = codewords-shape (c .before .before .before .before .before .before .before .before .before .before)
+with-mark-requires-2 : tie.Need-with-mark-requires-2
+with-mark-requires-2 c κs = search needs
 
 returns-6 : tie.Need-returns-6
 unfolding nearestAlone ofBits
 returns-6 c =
     let g = c .before .before .before in
     let f = g .before .before .before in
-    let h = f .before .before .before .before .before in
-    rw (shaped (h .before), long h, block-clean (g .before), ← g .first-outside2 .ensures, c .before .enum-told2 .given .1) (ap completed (found h (c .search .result) (c .search .ensures)))
+    let s = f .before .before .before .before in
+    let h = s .before in
+    rw (shaped (h .before), long h, block-clean (g .before), ← g .first-outside2 .ensures, c .before .enum-told2 .given .1) (answer h (s .search-near .result .best) _ (s .search-near .ensures .best-is) (c .with-mark2 .ensures))
 
 pub nearest-index-spec : {M : Type 1} → statement M
 nearest-index-spec =
@@ -131,6 +146,7 @@ nearest-index-spec =
     returns-2
     search-near-requires
     small-distances-requires
+    with-mark-requires
     returns-3
     first-outside-requires
     enum-known-bad
@@ -140,5 +156,5 @@ nearest-index-spec =
     enum-known-bad-2
     returns-5
     enum-told-2
-    search-requires
+    with-mark-requires-2
     returns-6)

@@ -1,183 +1,102 @@
--- `lloyd_alone::watch_fours` meets its contract: each sum is of every fourth distance passed, and while the sums are
--- small the best so far is the first least of the codewords passed. Assumes nothing.
-use mathlib.Core.Path.{_≡_, refl}
-use Prim.Native.Nat.{ℕ, _≤_, _<_, _-_, _+_, _*_, _^_}
+-- `lloyd_alone::watch_fours` meets its contract: before a turn the codewords before
+-- the i-th are passed, and the distances of the next four are known. Assumes nothing.
+use mathlib.Core.Path.{_≡_, refl, ap, _∙_}
+use Prim.Native.Nat.{ℕ, _≤_, _-_, _+_, _*_, _/_}
+use native.Mathlib.Nat.{le-trans, mul-le-mul-right}
 use native.Mathlib.Omega.{arith}
 use mathlib.Core.List.{List}
 use lib.ListN.{length}
-use lib.Ieee.{Float, binary64, add, ofBits, nanBits}
+use lib.Ieee.{Float, ofBits, nanBits}
 use borrow.Author.Needs.{needs}
 use Rattle.ieee.specs.Sum.{sumTo}
-use Rattle.lloyd_search.specs.Distance.{distance, vectorOf, rowOf}
-use Rattle.lloyd_search.specs.Nearest.{firstLeast, nearest}
-use Rattle.lloyd_alone.specs.Totals.{everyFourth, sumOfDistances}
-use Rattle.lloyd_search.proofs.Parts.{part-length}
-use Rattle.lloyd_search.proofs.Fours.{four-fit, second, third, fourth, next, row-distances}
-use Rattle.lloyd_alone.proofs.WatchLaw.{Low, sum-more, four-watched, fours-near}
+use Rattle.lloyd_search.specs.declared.Four.{Four}
+use Rattle.lloyd_alone.specs.declared.Watched.{Watched}
+use Rattle.lloyd_search.specs.Distance.{vectorOf, rowOf}
+use Rattle.lloyd_search.specs.Nearest.{firstLeast}
+use Rattle.lloyd_search.specs.Choice.{lastLeast}
+use Rattle.lloyd_search.specs.Four.{Distances}
+use Rattle.lloyd_search.proofs.Fours.{some-four, two-fours}
+use Rattle.lloyd_alone.specs.Watch.{watched}
+use Rattle.lloyd_alone.proofs.WatchLaw.{four-watched}
 use Rattle.lloyd_alone.proofs.watch_fours.Statement.{statement}
 use Rattle.lloyd_alone.proofs.watch_fours.Tie as tie
 
--- the distance of codeword m
-abbrev far : List Float → List Float → ℕ → Float
-far codewords block m = distance (length block) (vectorOf block) (rowOf (length block) codewords m)
+-- what is kept of the first n codewords
+abbrev passed : List Float → List Float → ℕ → Watched
+passed codewords block n = watched (length block) n (rowOf (length block) codewords) (vectorOf block)
 
 abbrev Inv-loop : tie.InvT-loop
-Inv-loop codewords fours block k best₀ first₀ second₀ third₀ fourth₀ i₀ at₀ turn₀ best first second third fourth i at turn =
-    (turn ≤ fours)
-    × (i ≡ turn * 4)
-    × (at ≡ i * length block)
-    × (first ≡ everyFourth (far codewords block) 0 turn)
-    × (second ≡ everyFourth (far codewords block) 1 turn)
-    × (third ≡ everyFourth (far codewords block) 2 turn)
-    × (fourth ≡ everyFourth (far codewords block) 3 turn)
-    × (Low (far codewords block) turn → best ≡ nearest (length block) i (rowOf (length block) codewords) (vectorOf block))
+Inv-loop codewords count block before₀ four₀ i₀ before four i =
+    (i + 4 ≤ count)
+    × (i ≡ i / 4 * 4)
+    × (before ≡ passed codewords block i)
+    × Distances (length block) (vectorOf block) (rowOf (length block) codewords i) (rowOf (length block) codewords (i + 1)) (rowOf (length block) codewords (i + 2)) (rowOf (length block) codewords (i + 3)) four
 
 abbrev μ-loop : tie.MeasureT-loop
-μ-loop codewords fours block k best₀ first₀ second₀ third₀ fourth₀ i₀ at₀ turn₀ best first second third fourth i at turn = fours - turn
+μ-loop codewords count block before₀ four₀ i₀ before four i = count - i
 
-float-from-bits-t19 : tie.Need-float-from-bits-t19 Inv-loop μ-loop
+float-from-bits-t8 : tie.Need-float-from-bits-t8 Inv-loop μ-loop
 unfolding nanBits
-float-from-bits-t19 c = tt
+float-from-bits-t8 c = tt
+
+returns : tie.Need-returns Inv-loop μ-loop
+unfolding ofBits firstLeast lastLeast sumTo
+returns c = rw (c .if1 .taken) refl
+
+distances-from-requires : tie.Need-distances-from-requires Inv-loop μ-loop
+distances-from-requires c κs =
+    let s = c .before .before .before in
+    le-trans (mul-le-mul-right (length (s .args .block .now)) (some-four (s .args .count) (s .pre .0) (c .if1 .left))) (s .pre .1)
 
 loop-holds : tie.Need-loop-holds Inv-loop μ-loop
-unfolding ofBits firstLeast sumTo
-loop-holds c = (search needs, refl, omega arith, refl, refl, refl, refl, λ low. refl)
+unfolding ofBits firstLeast lastLeast sumTo
+loop-holds c =
+    let s = c .before .before .before .before in
+    (some-four (s .args .count) (s .pre .0) (c .before .if1 .left), refl, refl, c .distances-from .ensures)
 
-inside : (c : tie.In-loop Inv-loop μ-loop) →
-    let a = c .before .before .before .before .args in
-    let k = length (a .block .now) in
-    c .before .loop .at + k + k + k + k ≤ length (a .codewords .now)
-inside c =
-    let a = c .before .before .before .before .args in
-    let l = c .before .loop in
-    four-fit (l .turn) (a .fours) (l .i) (length (a .block .now)) (l .at) (length (a .codewords .now)) (c .loop-test .taken) (l .inv .1) (l .inv .2) (c .before .before .before .before .pre .1)
+add-loop : tie.Need-add-loop Inv-loop μ-loop
+add-loop c = record { fits = omega (arith, c .loop .inv .0, c .before .before .before .before .before .fits .count .fits) }
 
-index-fits : (c : tie.In-loop Inv-loop μ-loop) → c .before .loop .i + 4 < 2 ^ 64
-index-fits c = omega (arith, c .loop-test .taken, c .before .loop .inv .1, c .before .before .before .before .pre .0)
+add-distances-from : tie.Need-add-distances-from Inv-loop μ-loop
+add-distances-from c = record { fits = omega (arith, c .before .loop .inv .0, c .before .before .before .before .before .before .fits .count .fits) }
 
-add-at2 : tie.Need-add-at2 Inv-loop μ-loop
-add-at2 c = record { fits = omega (arith, inside c, c .before .before .before .before .good .0 .0) }
+distances-from-requires-2 : tie.Need-distances-from-requires-2 Inv-loop μ-loop
+distances-from-requires-2 c κs =
+    let s = c .before .before .before .before .before .before in
+    le-trans (mul-le-mul-right (length (s .args .block .now)) (two-fours (c .before .loop .i) (s .args .count) (c .before .loop .inv .1) (s .pre .0) (c .loop-test .taken))) (s .pre .1)
 
-add-at3 : tie.Need-add-at3 Inv-loop μ-loop
-add-at3 c = record { fits = omega (arith, inside c, c .before .before .before .before .good .0 .0) }
-
-add-at4 : tie.Need-add-at4 Inv-loop μ-loop
-add-at4 c = record { fits = omega (arith, inside c, c .before .before .before .before .good .0 .0) }
-
-add-end : tie.Need-add-end Inv-loop μ-loop
-add-end c = record { fits = omega (arith, inside c, c .before .before .before .before .good .0 .0) }
-
-mul-four-distances : tie.Need-mul-four-distances Inv-loop μ-loop
-mul-four-distances c = record { fits = omega (arith, inside c, c .before .before .before .before .good .0 .1) }
-
-sub-four-distances : tie.Need-sub-four-distances Inv-loop μ-loop
-sub-four-distances c = search needs
-
-part-four-distances-start : tie.Need-part-four-distances-start Inv-loop μ-loop
-part-four-distances-start c = search needs
-
-part-four-distances-end : tie.Need-part-four-distances-end Inv-loop μ-loop
-part-four-distances-end c = omega (arith, inside c)
-
-mul-four-distances-2 : tie.Need-mul-four-distances-2 Inv-loop μ-loop
-mul-four-distances-2 c = record { fits = omega (arith, inside (c .before), c .before .before .before .before .before .good .0 .1) }
-
-sub-four-distances-2 : tie.Need-sub-four-distances-2 Inv-loop μ-loop
-sub-four-distances-2 c = search needs
-
-part-four-distances-start-2 : tie.Need-part-four-distances-start-2 Inv-loop μ-loop
-part-four-distances-start-2 c = search needs
-
-part-four-distances-end-2 : tie.Need-part-four-distances-end-2 Inv-loop μ-loop
-part-four-distances-end-2 c = omega (arith, inside (c .before))
-
-mul-four-distances-3 : tie.Need-mul-four-distances-3 Inv-loop μ-loop
-mul-four-distances-3 c = record { fits = omega (arith, inside (c .before .before), c .before .before .before .before .before .before .good .0 .1) }
-
-sub-four-distances-3 : tie.Need-sub-four-distances-3 Inv-loop μ-loop
-sub-four-distances-3 c = search needs
-
-part-four-distances-start-3 : tie.Need-part-four-distances-start-3 Inv-loop μ-loop
-part-four-distances-start-3 c = search needs
-
-part-four-distances-end-3 : tie.Need-part-four-distances-end-3 Inv-loop μ-loop
-part-four-distances-end-3 c = omega (arith, inside (c .before .before))
-
-mul-four-distances-4 : tie.Need-mul-four-distances-4 Inv-loop μ-loop
-mul-four-distances-4 c = record { fits = omega (arith, inside (c .before .before .before), c .before .before .before .before .before .before .before .good .0 .1) }
-
-sub-four-distances-4 : tie.Need-sub-four-distances-4 Inv-loop μ-loop
-sub-four-distances-4 c = search needs
-
-part-four-distances-start-4 : tie.Need-part-four-distances-start-4 Inv-loop μ-loop
-part-four-distances-start-4 c = search needs
-
-part-four-distances-end-4 : tie.Need-part-four-distances-end-4 Inv-loop μ-loop
-part-four-distances-end-4 c = omega (arith, inside (c .before .before .before))
-
-four-distances-requires : tie.Need-four-distances-requires Inv-loop μ-loop
-four-distances-requires c κs =
-    let q = c .before .before .before .before in
-    let l = q .before .loop in
-    let a = q .before .before .before .before .args in
-    let k = length (a .block .now) in
-    let cw = a .codewords .now in
-    let h = inside q in (
-      part-length cw (l .i) k (l .at) (l .inv .2) (omega arith),
-      part-length cw (l .i + 1) k (l .at + k) (second (l .i) k (l .at) (l .inv .2)) (omega arith),
-      part-length cw (l .i + 2) k (l .at + k + k) (third (l .i) k (l .at) (l .inv .2)) (omega arith),
-      part-length cw (l .i + 3) k (l .at + k + k + k) (fourth (l .i) k (l .at) (l .inv .2)) (omega arith),
-    )
-
-nearest-of-four-requires : tie.Need-nearest-of-four-requires Inv-loop μ-loop
-nearest-of-four-requires c κs = omega (arith, index-fits (c .before .before .before .before .before .before .before .before .before))
-
-nearer-requires : tie.Need-nearer-requires Inv-loop μ-loop
-nearer-requires c κs = tt
+watch-requires : tie.Need-watch-requires Inv-loop μ-loop
+watch-requires c κs = omega (arith, c .before .before .loop .inv .0, c .before .before .before .before .before .before .before .fits .count .fits)
 
 add-i : tie.Need-add-i Inv-loop μ-loop
-add-i c = record { fits = index-fits (c .before .before .before .before .before .before .before .before .before .before .before) }
-
-add-turn : tie.Need-add-turn Inv-loop μ-loop
-add-turn c =
-    let q = c .before .before .before .before .before .before .before .before .before .before .before in
-    record { fits = omega (arith, index-fits q, q .loop-test .taken, q .before .loop .inv .1) }
+add-i c = record { fits = omega (arith, c .before .before .before .loop .inv .0, c .before .before .before .before .before .before .before .before .fits .count .fits) }
 
 loop-less : tie.Need-loop-less Inv-loop μ-loop
-loop-less c = omega (arith, c .before .before .before .before .before .before .before .before .before .before .before .loop-test .taken)
+loop-less c = let l = c .before .before .before .loop in omega (arith, l .inv .0)
 
 loop-again : tie.Need-loop-again Inv-loop μ-loop
 loop-again c =
-    let q = c .before .before .before .before .before .before .before .before .before .before .before in
-    let l = q .before .loop in
-    let a = q .before .before .before .before .args in
-    let k = length (a .block .now) in
-    let x = vectorOf (a .block .now) in
-    let d = far (a .codewords .now) (a .block .now) in
-    let f = c .before .before .before .before .before .before .four-distances in
-    let n = c .before .nearest-of-four in
-    let rows = row-distances x (a .codewords .now) (l .i) k (l .at) (f .result) (l .inv .2) (f .ensures) in (
-      omega (arith, q .loop-test .taken),
+    let l = c .before .before .before .loop in
+    let s = c .before .before .before .before .before .before .before .before in
+    let a = s .args in
+    let k = length (a .block .now) in (
+      two-fours (l .i) (a .count) (l .inv .1) (s .pre .0) (c .before .before .loop-test .taken),
       omega (arith, l .inv .1),
-      next (l .i) k (l .at) (l .inv .2),
-      sum-more d 0 (l .turn) (l .i) (l .first) (f .result .first) (l .inv .3) (rows .to-first) (omega (arith, l .inv .1)),
-      sum-more d 1 (l .turn) (l .i + 1) (l .second) (f .result .second) (l .inv .4) (rows .to-second) (omega (arith, l .inv .1)),
-      sum-more d 2 (l .turn) (l .i + 2) (l .third) (f .result .third) (l .inv .5) (rows .to-third) (omega (arith, l .inv .1)),
-      sum-more d 3 (l .turn) (l .i + 3) (l .fourth) (f .result .fourth) (l .inv .6) (rows .to-fourth) (omega (arith, l .inv .1)),
-      four-watched k (rowOf k (a .codewords .now)) x (l .turn) (l .i) (f .result) (l .best) (n .result) (c .nearer .result) (l .inv .1) rows (l .inv .7) (n .ensures) (c .nearer .ensures),
+      four-watched k (rowOf k (a .codewords .now)) (vectorOf (a .block .now)) (l .i) (l .four) (l .before) (c .watch .result) (l .inv .1) (l .inv .3) (l .inv .2) (c .watch .ensures),
+      c .before .distances-from2 .ensures,
     )
 
-returns : tie.Need-returns Inv-loop μ-loop
-returns c =
-    let a = c .before .before .before .before .args in
-    let l = c .before .loop in
+watch-requires-2 : tie.Need-watch-requires-2 Inv-loop μ-loop
+watch-requires-2 c κs = omega (arith, c .before .loop .inv .0, c .before .before .before .before .before .before .fits .count .fits)
+
+returns-2 : tie.Need-returns-2 Inv-loop μ-loop
+returns-2 c =
+    let l = c .before .before .loop in
+    let s = c .before .before .before .before .before .before .before in
+    let a = s .args in
     let k = length (a .block .now) in
-    let x = vectorOf (a .block .now) in
-    let book = rowOf k (a .codewords .now) in
-    let e : l .turn ≡ a .fours = omega arith in
-    let t : add binary64 (add binary64 (l .first) (l .second)) (add binary64 (l .third) (l .fourth)) ≡ sumOfDistances (far (a .codewords .now) (a .block .now)) (a .fours) = rw (l .inv .3, l .inv .4, l .inv .5, l .inv .6, e) in
-    let best : Low (far (a .codewords .now) (a .block .now)) (a .fours) → l .best ≡ nearest k (a .fours * 4) book x = rw (← e, ← l .inv .1) (l .inv .7) in
-    record { total-is = t; where-small = fours-near k book x (a .fours) (l .best) _ best t }
+    let e : l .i + 4 ≡ a .count = omega (arith, l .inv .0, c .before .loop-test .left) in
+    four-watched k (rowOf k (a .codewords .now)) (vectorOf (a .block .now)) (l .i) (l .four) (l .before) (c .watch2 .result) (l .inv .1) (l .inv .3) (l .inv .2) (c .watch2 .ensures) ∙ ap (passed (a .codewords .now) (a .block .now)) e
 
 pub watch-fours-spec : {M : Type 1} → statement M
 watch-fours-spec =
@@ -185,33 +104,16 @@ watch-fours-spec =
     (tie.spec
     Inv-loop
     μ-loop
-    float-from-bits-t19
+    float-from-bits-t8
+    returns
+    distances-from-requires
     loop-holds
-    add-at2
-    add-at3
-    add-at4
-    add-end
-    mul-four-distances
-    sub-four-distances
-    part-four-distances-start
-    part-four-distances-end
-    mul-four-distances-2
-    sub-four-distances-2
-    part-four-distances-start-2
-    part-four-distances-end-2
-    mul-four-distances-3
-    sub-four-distances-3
-    part-four-distances-start-3
-    part-four-distances-end-3
-    mul-four-distances-4
-    sub-four-distances-4
-    part-four-distances-start-4
-    part-four-distances-end-4
-    four-distances-requires
-    nearest-of-four-requires
-    nearer-requires
+    add-loop
+    add-distances-from
+    distances-from-requires-2
+    watch-requires
     add-i
-    add-turn
     loop-less
     loop-again
-    returns)
+    watch-requires-2
+    returns-2)

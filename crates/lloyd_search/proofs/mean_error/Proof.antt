@@ -10,7 +10,7 @@ use borrow.Author.Needs.{needs}
 use Rattle.ieee.specs.Sum.{sumTo}
 use Rattle.lloyd_search.specs.Distance.{distance, rowOf}
 use Rattle.lloyd_search.specs.Nearest.{nearest}
-use Rattle.lloyd_search.proofs.Parts.{row-fits, next-row, part-length, part-nearest}
+use Rattle.lloyd_search.proofs.Parts.{row-fits, next-row, part-length, part-chosen}
 use Rattle.lloyd_search.proofs.mean_error.Statement.{statement}
 use Rattle.lloyd_search.proofs.mean_error.Tie as tie
 
@@ -67,7 +67,7 @@ unfolding sumTo
 loop-again c =
     let l = c .before .before .before .before in
     let a = l .before .before .before .args in
-    let e = c .before .search .ensures ∙ part-nearest (a .codewords .now) (a .samples .now) (a .n) (l .loop .s) (a .k) (l .loop .at) (l .loop .inv .1) (inside (c .before .before .before)) in
+    let e = c .before .search .ensures ∙ part-chosen (a .codewords .now) (a .samples .now) (a .n) (l .loop .s) (a .k) (l .loop .at) (l .loop .inv .1) (inside (c .before .before .before)) in
     (search needs, next-row (l .loop .s) (a .k) (l .loop .at) _ (l .loop .inv .1) refl, rw (add-one, l .loop .inv .2, e))
 
 from-u64-requires : tie.Need-from-u64-requires Inv-loop μ-loop

@@ -1,168 +1,99 @@
--- `lloyd_search::search_fours` meets its contract: the best so far is the first
--- least of the codewords passed, four more in each turn. Assumes nothing.
+-- `lloyd_search::search_fours` meets its contract: before a turn the codewords before
+-- the i-th are passed, and the distances of the next four are known. Assumes nothing.
 use mathlib.Core.Path.{_≡_, refl, ap, _∙_}
-use Prim.Native.Nat.{ℕ, _≤_, _<_, _-_, _+_, _*_, _^_}
+use Prim.Native.Nat.{ℕ, _≤_, _-_, _+_, _*_, _/_}
+use native.Mathlib.Nat.{le-trans, mul-le-mul-right}
 use native.Mathlib.Omega.{arith}
+use mathlib.Core.List.{List}
 use lib.ListN.{length}
-use lib.Ieee.{ofBits, nanBits}
+use lib.Ieee.{Float, ofBits, nanBits}
 use borrow.Author.Needs.{needs}
+use Rattle.lloyd_search.specs.declared.Four.{Four}
+use Rattle.lloyd_search.specs.declared.Choice.{Choice}
 use Rattle.lloyd_search.specs.Distance.{vectorOf, rowOf}
-use Rattle.lloyd_search.specs.Nearest.{firstLeast, nearest}
-use Rattle.lloyd_search.proofs.Parts.{part-length}
-use Rattle.lloyd_search.proofs.Fours.{four-fit, second, third, fourth, next, four-more}
+use Rattle.lloyd_search.specs.Nearest.{firstLeast}
+use Rattle.lloyd_search.specs.Choice.{lastLeast, chosen}
+use Rattle.lloyd_search.specs.Four.{Distances}
+use Rattle.lloyd_search.proofs.Fours.{some-four, two-fours, four-more}
 use Rattle.lloyd_search.proofs.search_fours.Statement.{statement}
 use Rattle.lloyd_search.proofs.search_fours.Tie as tie
 
+-- the choice among the first n codewords
+abbrev passed : List Float → List Float → ℕ → Choice
+passed codewords block n = chosen (length block) n (rowOf (length block) codewords) (vectorOf block)
+
 abbrev Inv-loop : tie.InvT-loop
-Inv-loop codewords fours block k best₀ i₀ at₀ turn₀ best i at turn =
-    (turn ≤ fours) × (i ≡ turn * 4) × (at ≡ i * length block) × (best ≡ nearest (length block) i (rowOf (length block) codewords) (vectorOf block))
+Inv-loop codewords count block best₀ four₀ i₀ best four i =
+    (i + 4 ≤ count)
+    × (i ≡ i / 4 * 4)
+    × (best ≡ passed codewords block i)
+    × Distances (length block) (vectorOf block) (rowOf (length block) codewords i) (rowOf (length block) codewords (i + 1)) (rowOf (length block) codewords (i + 2)) (rowOf (length block) codewords (i + 3)) four
 
 abbrev μ-loop : tie.MeasureT-loop
-μ-loop codewords fours block k best₀ i₀ at₀ turn₀ best i at turn = fours - turn
+μ-loop codewords count block best₀ four₀ i₀ best four i = count - i
 
-float-from-bits-t14 : tie.Need-float-from-bits-t14 Inv-loop μ-loop
+float-from-bits-t8 : tie.Need-float-from-bits-t8 Inv-loop μ-loop
 unfolding nanBits
-float-from-bits-t14 c = tt
+float-from-bits-t8 c = tt
+
+returns : tie.Need-returns Inv-loop μ-loop
+unfolding ofBits firstLeast lastLeast
+returns c = rw (c .if1 .taken) refl
+
+distances-from-requires : tie.Need-distances-from-requires Inv-loop μ-loop
+distances-from-requires c κs =
+    let s = c .before .before .before in
+    le-trans (mul-le-mul-right (length (s .args .block .now)) (some-four (s .args .count) (s .pre .0) (c .if1 .left))) (s .pre .1)
 
 loop-holds : tie.Need-loop-holds Inv-loop μ-loop
-unfolding ofBits firstLeast
-loop-holds c = (search needs, refl, omega arith, refl)
+unfolding ofBits firstLeast lastLeast
+loop-holds c =
+    let s = c .before .before .before .before in
+    (some-four (s .args .count) (s .pre .0) (c .before .if1 .left), refl, refl, c .distances-from .ensures)
 
-inside : (c : tie.In-loop Inv-loop μ-loop) →
-    let a = c .before .before .before .before .args in
-    let k = length (a .block .now) in
-    c .before .loop .at + k + k + k + k ≤ length (a .codewords .now)
-inside c =
-    let a = c .before .before .before .before .args in
-    let l = c .before .loop in
-    four-fit (l .turn) (a .fours) (l .i) (length (a .block .now)) (l .at) (length (a .codewords .now)) (c .loop-test .taken) (l .inv .1) (l .inv .2) (c .before .before .before .before .pre .1)
+add-loop : tie.Need-add-loop Inv-loop μ-loop
+add-loop c = record { fits = omega (arith, c .loop .inv .0, c .before .before .before .before .before .fits .count .fits) }
 
-index-fits : (c : tie.In-loop Inv-loop μ-loop) → c .before .loop .i + 4 < 2 ^ 64
-index-fits c = omega (arith, c .loop-test .taken, c .before .loop .inv .1, c .before .before .before .before .pre .0)
+add-distances-from : tie.Need-add-distances-from Inv-loop μ-loop
+add-distances-from c = record { fits = omega (arith, c .before .loop .inv .0, c .before .before .before .before .before .before .fits .count .fits) }
 
-add-at2 : tie.Need-add-at2 Inv-loop μ-loop
-add-at2 c = record { fits = omega (arith, inside c, c .before .before .before .before .good .0 .0) }
+distances-from-requires-2 : tie.Need-distances-from-requires-2 Inv-loop μ-loop
+distances-from-requires-2 c κs =
+    let s = c .before .before .before .before .before .before in
+    le-trans (mul-le-mul-right (length (s .args .block .now)) (two-fours (c .before .loop .i) (s .args .count) (c .before .loop .inv .1) (s .pre .0) (c .loop-test .taken))) (s .pre .1)
 
-add-at3 : tie.Need-add-at3 Inv-loop μ-loop
-add-at3 c = record { fits = omega (arith, inside c, c .before .before .before .before .good .0 .0) }
-
-add-at4 : tie.Need-add-at4 Inv-loop μ-loop
-add-at4 c = record { fits = omega (arith, inside c, c .before .before .before .before .good .0 .0) }
-
-add-end : tie.Need-add-end Inv-loop μ-loop
-add-end c = record { fits = omega (arith, inside c, c .before .before .before .before .good .0 .0) }
-
-mul-four-distances : tie.Need-mul-four-distances Inv-loop μ-loop
-mul-four-distances c = record { fits = omega (arith, inside c, c .before .before .before .before .good .0 .1) }
-
-sub-four-distances : tie.Need-sub-four-distances Inv-loop μ-loop
-sub-four-distances c = search needs
-
-part-four-distances-start : tie.Need-part-four-distances-start Inv-loop μ-loop
-part-four-distances-start c = search needs
-
-part-four-distances-end : tie.Need-part-four-distances-end Inv-loop μ-loop
-part-four-distances-end c = omega (arith, inside c)
-
-mul-four-distances-2 : tie.Need-mul-four-distances-2 Inv-loop μ-loop
-mul-four-distances-2 c = record { fits = omega (arith, inside (c .before), c .before .before .before .before .before .good .0 .1) }
-
-sub-four-distances-2 : tie.Need-sub-four-distances-2 Inv-loop μ-loop
-sub-four-distances-2 c = search needs
-
-part-four-distances-start-2 : tie.Need-part-four-distances-start-2 Inv-loop μ-loop
-part-four-distances-start-2 c = search needs
-
-part-four-distances-end-2 : tie.Need-part-four-distances-end-2 Inv-loop μ-loop
-part-four-distances-end-2 c = omega (arith, inside (c .before))
-
-mul-four-distances-3 : tie.Need-mul-four-distances-3 Inv-loop μ-loop
-mul-four-distances-3 c = record { fits = omega (arith, inside (c .before .before), c .before .before .before .before .before .before .good .0 .1) }
-
-sub-four-distances-3 : tie.Need-sub-four-distances-3 Inv-loop μ-loop
-sub-four-distances-3 c = search needs
-
-part-four-distances-start-3 : tie.Need-part-four-distances-start-3 Inv-loop μ-loop
-part-four-distances-start-3 c = search needs
-
-part-four-distances-end-3 : tie.Need-part-four-distances-end-3 Inv-loop μ-loop
-part-four-distances-end-3 c = omega (arith, inside (c .before .before))
-
-mul-four-distances-4 : tie.Need-mul-four-distances-4 Inv-loop μ-loop
-mul-four-distances-4 c = record { fits = omega (arith, inside (c .before .before .before), c .before .before .before .before .before .before .before .good .0 .1) }
-
-sub-four-distances-4 : tie.Need-sub-four-distances-4 Inv-loop μ-loop
-sub-four-distances-4 c = search needs
-
-part-four-distances-start-4 : tie.Need-part-four-distances-start-4 Inv-loop μ-loop
-part-four-distances-start-4 c = search needs
-
-part-four-distances-end-4 : tie.Need-part-four-distances-end-4 Inv-loop μ-loop
-part-four-distances-end-4 c = omega (arith, inside (c .before .before .before))
-
-four-distances-requires : tie.Need-four-distances-requires Inv-loop μ-loop
-four-distances-requires c κs =
-    let q = c .before .before .before .before in
-    let l = q .before .loop in
-    let a = q .before .before .before .before .args in
-    let k = length (a .block .now) in
-    let cw = a .codewords .now in
-    let h = inside q in (
-      part-length cw (l .i) k (l .at) (l .inv .2) (omega arith),
-      part-length cw (l .i + 1) k (l .at + k) (second (l .i) k (l .at) (l .inv .2)) (omega arith),
-      part-length cw (l .i + 2) k (l .at + k + k) (third (l .i) k (l .at) (l .inv .2)) (omega arith),
-      part-length cw (l .i + 3) k (l .at + k + k + k) (fourth (l .i) k (l .at) (l .inv .2)) (omega arith),
-    )
-
-nearer-requires : tie.Need-nearer-requires Inv-loop μ-loop
-nearer-requires c κs = tt
-
-add-nearer : tie.Need-add-nearer Inv-loop μ-loop
-add-nearer c = record { fits = omega (arith, index-fits (c .before .before .before .before .before .before)) }
-
-nearer-requires-2 : tie.Need-nearer-requires-2 Inv-loop μ-loop
-nearer-requires-2 c κs = tt
-
-add-nearer-2 : tie.Need-add-nearer-2 Inv-loop μ-loop
-add-nearer-2 c = record { fits = omega (arith, index-fits (c .before .before .before .before .before .before .before)) }
-
-nearer-requires-3 : tie.Need-nearer-requires-3 Inv-loop μ-loop
-nearer-requires-3 c κs = tt
-
-add-nearer-3 : tie.Need-add-nearer-3 Inv-loop μ-loop
-add-nearer-3 c = record { fits = omega (arith, index-fits (c .before .before .before .before .before .before .before .before)) }
-
-nearer-requires-4 : tie.Need-nearer-requires-4 Inv-loop μ-loop
-nearer-requires-4 c κs = tt
+nearer-four-requires : tie.Need-nearer-four-requires Inv-loop μ-loop
+nearer-four-requires c κs = omega (arith, c .before .before .loop .inv .0, c .before .before .before .before .before .before .before .fits .count .fits)
 
 add-i : tie.Need-add-i Inv-loop μ-loop
-add-i c = record { fits = index-fits (c .before .before .before .before .before .before .before .before .before) }
-
-add-turn : tie.Need-add-turn Inv-loop μ-loop
-add-turn c = record { fits = omega (arith, index-fits (c .before .before .before .before .before .before .before .before .before), c .before .before .before .before .before .before .before .before .before .loop-test .taken, c .before .before .before .before .before .before .before .before .before .before .loop .inv .1) }
+add-i c = record { fits = omega (arith, c .before .before .before .loop .inv .0, c .before .before .before .before .before .before .before .before .fits .count .fits) }
 
 loop-less : tie.Need-loop-less Inv-loop μ-loop
-loop-less c = omega (arith, c .before .before .before .before .before .before .before .before .before .loop-test .taken)
+loop-less c = let l = c .before .before .before .loop in omega (arith, l .inv .0)
 
 loop-again : tie.Need-loop-again Inv-loop μ-loop
 loop-again c =
-    let q = c .before .before .before .before .before .before .before .before .before in
-    let l = q .before .loop in
-    let a = q .before .before .before .before .args in
-    let k = length (a .block .now) in
-    let f = c .before .before .before .before .four-distances in (
-      omega (arith, q .loop-test .taken),
+    let l = c .before .before .before .loop in
+    let s = c .before .before .before .before .before .before .before .before in
+    let a = s .args in
+    let k = length (a .block .now) in (
+      two-fours (l .i) (a .count) (l .inv .1) (s .pre .0) (c .before .before .loop-test .taken),
       omega (arith, l .inv .1),
-      next (l .i) k (l .at) (l .inv .2),
-      four-more (vectorOf (a .block .now)) (a .codewords .now) (l .i) k (l .at) (f .result) (l .best) (c .before .before .before .nearer .result) (c .before .before .nearer2 .result) (c .before .nearer3 .result) (c .nearer4 .result) (l .inv .2) (f .ensures) (l .inv .3)
-          (c .before .before .before .nearer .ensures) (c .before .before .nearer2 .ensures) (c .before .nearer3 .ensures) (c .nearer4 .ensures),
+      four-more (vectorOf (a .block .now)) (rowOf k (a .codewords .now)) (l .i) k (l .four) (l .best) (c .nearer-four .result) (l .inv .3) (l .inv .2) (c .nearer-four .ensures),
+      c .before .distances-from2 .ensures,
     )
 
-returns : tie.Need-returns Inv-loop μ-loop
-returns c =
-    let a = c .before .before .before .before .args in
-    let e : c .before .loop .i ≡ a .fours * 4 = omega arith in
-    c .before .loop .inv .3 ∙ ap (λ (m : ℕ). nearest (length (a .block .now)) m (rowOf (length (a .block .now)) (a .codewords .now)) (vectorOf (a .block .now))) e
+nearer-four-requires-2 : tie.Need-nearer-four-requires-2 Inv-loop μ-loop
+nearer-four-requires-2 c κs = omega (arith, c .before .loop .inv .0, c .before .before .before .before .before .before .fits .count .fits)
+
+returns-2 : tie.Need-returns-2 Inv-loop μ-loop
+returns-2 c =
+    let l = c .before .before .loop in
+    let s = c .before .before .before .before .before .before .before in
+    let a = s .args in
+    let k = length (a .block .now) in
+    let e : l .i + 4 ≡ a .count = omega (arith, l .inv .0, c .before .loop-test .left) in
+    four-more (vectorOf (a .block .now)) (rowOf k (a .codewords .now)) (l .i) k (l .four) (l .best) (c .nearer-four2 .result) (l .inv .3) (l .inv .2) (c .nearer-four2 .ensures) ∙ ap (passed (a .codewords .now) (a .block .now)) e
 
 pub search-fours-spec : {M : Type 1} → statement M
 search-fours-spec =
@@ -170,38 +101,16 @@ search-fours-spec =
     (tie.spec
     Inv-loop
     μ-loop
-    float-from-bits-t14
+    float-from-bits-t8
+    returns
+    distances-from-requires
     loop-holds
-    add-at2
-    add-at3
-    add-at4
-    add-end
-    mul-four-distances
-    sub-four-distances
-    part-four-distances-start
-    part-four-distances-end
-    mul-four-distances-2
-    sub-four-distances-2
-    part-four-distances-start-2
-    part-four-distances-end-2
-    mul-four-distances-3
-    sub-four-distances-3
-    part-four-distances-start-3
-    part-four-distances-end-3
-    mul-four-distances-4
-    sub-four-distances-4
-    part-four-distances-start-4
-    part-four-distances-end-4
-    four-distances-requires
-    nearer-requires
-    add-nearer
-    nearer-requires-2
-    add-nearer-2
-    nearer-requires-3
-    add-nearer-3
-    nearer-requires-4
+    add-loop
+    add-distances-from
+    distances-from-requires-2
+    nearer-four-requires
     add-i
-    add-turn
     loop-less
     loop-again
-    returns)
+    nearer-four-requires-2
+    returns-2)

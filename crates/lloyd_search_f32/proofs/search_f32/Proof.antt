@@ -1,5 +1,5 @@
 -- `lloyd_search_f32::search_f32` meets its contract: from what the fours give,
--- the best so far is the first least of the codewords passed. Assumes nothing.
+-- the best so far is the choice among the codewords passed. Assumes nothing.
 use mathlib.Core.Path.{_≡_, refl, sym, ap, _∙_}
 use Prim.Native.Nat.{ℕ, _≤_, _-_, _+_, _*_}
 use native.Mathlib.Nat.{div-mul-le-self}
@@ -7,7 +7,7 @@ use native.Mathlib.Omega.{arith}
 use lib.ListN.{length}
 use borrow.Author.Needs.{needs}
 use Rattle.lloyd_search.specs.Distance.{distance, vectorOf, rowOf}
-use Rattle.lloyd_search.specs.Nearest.{nearest}
+use Rattle.lloyd_search.specs.Choice.{chosen}
 use Rattle.lloyd_search.proofs.Parts.{row-fits, next-row, part-length, part-distance}
 use Rattle.lloyd_search_f32.proofs.WidenLaw.{part-finite}
 use Rattle.lloyd_search.proofs.Fours.{fours-fit}
@@ -16,25 +16,25 @@ use Rattle.lloyd_search_f32.proofs.search_f32.Statement.{statement}
 use Rattle.lloyd_search_f32.proofs.search_f32.Tie as tie
 
 abbrev Inv-loop : tie.InvT-loop
-Inv-loop codewords n block k best₀ i₀ at₀ best i at =
-    (i ≤ n) × (at ≡ i * length block) × (best ≡ nearest (length block) i (rowOf (length block) codewords) (vectorOf block))
+Inv-loop codewords n block k i₀ best₀ at₀ i best at =
+    (i ≤ n) × (at ≡ i * length block) × (best ≡ chosen (length block) i (rowOf (length block) codewords) (vectorOf block))
 
 abbrev μ-loop : tie.MeasureT-loop
-μ-loop codewords n block k best₀ i₀ at₀ best i at = n - i
+μ-loop codewords n block k i₀ best₀ at₀ i best at = n - i
+
+mul-i : tie.Need-mul-i Inv-loop μ-loop
+mul-i c = record { fits = omega (arith, div-mul-le-self (c .before .before .args .n) 4, c .before .before .fits .n .fits) }
 
 search-fours-f32-requires : tie.Need-search-fours-f32-requires Inv-loop μ-loop
 search-fours-f32-requires c κs =
     let s = c .before .before in
-    let h = fours-fit (s .args .n) (length (s .args .block .now)) (length (s .args .codewords .now)) (s .fits .n .fits) (s .pre .0) in
+    let h = fours-fit (s .args .n) (length (s .args .block .now)) (length (s .args .codewords .now)) (s .pre .0) in
     (h .0, h .1, s .pre .1)
-
-mul-i : tie.Need-mul-i Inv-loop μ-loop
-mul-i c = record { fits = omega (arith, div-mul-le-self (c .before .before .before .args .n) 4, c .before .before .before .fits .n .fits) }
 
 mul-at : tie.Need-mul-at Inv-loop μ-loop
 mul-at c =
     let a = c .before .before .before .args in
-    let h = fours-fit (a .n) (length (a .block .now)) (length (a .codewords .now)) (c .before .before .before .fits .n .fits) (c .before .before .before .pre .0) in
+    let h = fours-fit (a .n) (length (a .block .now)) (length (a .codewords .now)) (c .before .before .before .pre .0) in
     record { fits = omega (arith, h .1, c .before .before .before .good .0 .0) }
 
 loop-holds : tie.Need-loop-holds Inv-loop μ-loop
@@ -93,7 +93,7 @@ returns : tie.Need-returns Inv-loop μ-loop
 returns c =
     let a = c .before .before .before .before .before .args in
     let e : c .before .loop .i ≡ a .n = omega arith in
-    c .before .loop .inv .2 ∙ ap (λ (m : ℕ). nearest (length (a .block .now)) m (rowOf (length (a .block .now)) (a .codewords .now)) (vectorOf (a .block .now))) e
+    c .before .loop .inv .2 ∙ ap (λ (m : ℕ). chosen (length (a .block .now)) m (rowOf (length (a .block .now)) (a .codewords .now)) (vectorOf (a .block .now))) e
 
 pub search-f32-spec : {M : Type 1} → statement M
 search-f32-spec =
@@ -101,8 +101,8 @@ search-f32-spec =
     (tie.spec
     Inv-loop
     μ-loop
-    search-fours-f32-requires
     mul-i
+    search-fours-f32-requires
     mul-at
     loop-holds
     add-end

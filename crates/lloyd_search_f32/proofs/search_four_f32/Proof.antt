@@ -1,5 +1,5 @@
 -- `lloyd_search_f32::search_four_f32` meets its contract: the best so far of
--- each block is the first least of the codewords passed. Assumes nothing.
+-- each block is the choice among the codewords passed. Assumes nothing.
 use mathlib.Core.Path.{_≡_, refl, sym, _∙_}
 use Prim.Native.Nat.{_≤_, _-_, _+_, _*_}
 use native.Mathlib.Omega.{arith}
@@ -9,7 +9,8 @@ use lib.Ieee.{ofBits, nanBits}
 use borrow.Author.Needs.{needs}
 use Rattle.lloyd_search.specs.Distance.{distance, rowOf}
 use Rattle.lloyd_search.specs.Nearest.{firstLeast}
-use Rattle.lloyd_search_f32.specs.Four.{FourNearest}
+use Rattle.lloyd_search.specs.Choice.{lastLeast}
+use Rattle.lloyd_search_f32.specs.Four.{FourChosen}
 use Rattle.lloyd_search.proofs.Parts.{row-fits, next-row, part-length}
 use Rattle.lloyd_search_f32.proofs.WidenLaw.{part-finite}
 use Rattle.lloyd_search_f32.proofs.FourBlocks.{rows-apart}
@@ -19,7 +20,7 @@ use Rattle.lloyd_search_f32.proofs.search_four_f32.Tie as tie
 
 abbrev Inv-loop : tie.InvT-loop
 Inv-loop codewords n k blocks two three four a b c d first₀ second₀ third₀ fourth₀ i₀ at₀ first second third fourth i at =
-    (i ≤ n) × (at ≡ i * k) × FourNearest k i (rowOf k codewords) (rowOf k blocks) (record { first = first; second = second; third = third; fourth = fourth })
+    (i ≤ n) × (at ≡ i * k) × FourChosen k i (rowOf k codewords) (rowOf k blocks) (record { first = first; second = second; third = third; fourth = fourth })
 
 abbrev μ-loop : tie.MeasureT-loop
 μ-loop codewords n k blocks two three four a b c d first₀ second₀ third₀ fourth₀ i₀ at₀ first second third fourth i at = n - i
@@ -79,7 +80,7 @@ unfolding nanBits
 float-from-bits-t30 c = tt
 
 loop-holds : tie.Need-loop-holds Inv-loop μ-loop
-unfolding ofBits firstLeast
+unfolding ofBits firstLeast lastLeast
 loop-holds c = (omega arith, omega arith, record { for-first = refl; for-second = refl; for-third = refl; for-fourth = refl })
 
 -- the codeword lies within the list

@@ -1,174 +1,64 @@
 -- `lloyd_search_f32::search_fours_f32` meets its contract: the best so far is the
--- first least of the codewords passed, four more in each turn. Assumes nothing.
+-- choice among the codewords passed, four more in each turn. Assumes nothing.
 use mathlib.Core.Path.{_≡_, refl, ap, _∙_}
-use Prim.Native.Nat.{ℕ, _≤_, _<_, _-_, _+_, _*_, _^_}
+use Prim.Native.Nat.{ℕ, _≤_, _-_, _+_, _*_, _/_}
+use native.Mathlib.Nat.{le-trans, mul-le-mul-right}
 use native.Mathlib.Omega.{arith}
 use lib.ListN.{length}
 use lib.Ieee.{ofBits, nanBits}
 use borrow.Author.Needs.{needs}
 use Rattle.lloyd_search.specs.Distance.{vectorOf, rowOf}
-use Rattle.lloyd_search.specs.Nearest.{firstLeast, nearest}
-use Rattle.lloyd_search.proofs.Parts.{part-length}
-use Rattle.lloyd_search_f32.proofs.WidenLaw.{part-finite}
-use Rattle.lloyd_search.proofs.Fours.{four-fit, second, third, fourth, next, four-more}
+use Rattle.lloyd_search.specs.Nearest.{firstLeast}
+use Rattle.lloyd_search.specs.Choice.{lastLeast, chosen}
+use Rattle.lloyd_search.proofs.Fours.{four-below, four-more}
 use Rattle.lloyd_search_f32.proofs.search_fours_f32.Statement.{statement}
 use Rattle.lloyd_search_f32.proofs.search_fours_f32.Tie as tie
 
 abbrev Inv-loop : tie.InvT-loop
-Inv-loop codewords fours block k best₀ i₀ at₀ turn₀ best i at turn =
-    (turn ≤ fours) × (i ≡ turn * 4) × (at ≡ i * length block) × (best ≡ nearest (length block) i (rowOf (length block) codewords) (vectorOf block))
+Inv-loop codewords count block best₀ i₀ best i = (i ≤ count) × (i ≡ i / 4 * 4) × (best ≡ chosen (length block) i (rowOf (length block) codewords) (vectorOf block))
 
 abbrev μ-loop : tie.MeasureT-loop
-μ-loop codewords fours block k best₀ i₀ at₀ turn₀ best i at turn = fours - turn
+μ-loop codewords count block best₀ i₀ best i = count - i
 
-float-from-bits-t17 : tie.Need-float-from-bits-t17 Inv-loop μ-loop
+float-from-bits-t6 : tie.Need-float-from-bits-t6 Inv-loop μ-loop
 unfolding nanBits
-float-from-bits-t17 c = tt
+float-from-bits-t6 c = tt
 
 loop-holds : tie.Need-loop-holds Inv-loop μ-loop
-unfolding ofBits firstLeast
-loop-holds c = (search needs, refl, omega arith, refl)
+unfolding ofBits firstLeast lastLeast
+loop-holds c = (search needs, refl, refl)
 
-inside : (c : tie.In-loop Inv-loop μ-loop) →
-    let a = c .before .before .before .before .args in
-    let k = length (a .block .now) in
-    c .before .loop .at + k + k + k + k ≤ length (a .codewords .now)
-inside c =
-    let a = c .before .before .before .before .args in
-    let l = c .before .loop in
-    four-fit (l .turn) (a .fours) (l .i) (length (a .block .now)) (l .at) (length (a .codewords .now)) (c .loop-test .taken) (l .inv .1) (l .inv .2) (c .before .before .before .before .pre .1)
+four-left : (c : tie.In-loop Inv-loop μ-loop) → c .before .loop .i + 4 ≤ c .before .before .before .before .args .count
+four-left c = four-below (c .before .loop .i) (c .before .before .before .before .args .count) (c .loop-test .taken) (c .before .loop .inv .1) (c .before .before .before .before .pre .0)
 
-index-fits : (c : tie.In-loop Inv-loop μ-loop) → c .before .loop .i + 4 < 2 ^ 64
-index-fits c = omega (arith, c .loop-test .taken, c .before .loop .inv .1, c .before .before .before .before .pre .0)
+distances-from-f32-requires : tie.Need-distances-from-f32-requires Inv-loop μ-loop
+distances-from-f32-requires c κs =
+    let s = c .before .before .before .before in
+    (le-trans (mul-le-mul-right (length (s .args .block .now)) (four-left c)) (s .pre .1), s .pre .2)
 
-add-at2 : tie.Need-add-at2 Inv-loop μ-loop
-add-at2 c = record { fits = omega (arith, inside c, c .before .before .before .before .good .0 .0) }
-
-add-at3 : tie.Need-add-at3 Inv-loop μ-loop
-add-at3 c = record { fits = omega (arith, inside c, c .before .before .before .before .good .0 .0) }
-
-add-at4 : tie.Need-add-at4 Inv-loop μ-loop
-add-at4 c = record { fits = omega (arith, inside c, c .before .before .before .before .good .0 .0) }
-
-add-end : tie.Need-add-end Inv-loop μ-loop
-add-end c = record { fits = omega (arith, inside c, c .before .before .before .before .good .0 .0) }
-
-mul-four-distances-f32 : tie.Need-mul-four-distances-f32 Inv-loop μ-loop
-mul-four-distances-f32 c = record { fits = omega (arith, inside c, c .before .before .before .before .good .0 .1) }
-
-sub-four-distances-f32 : tie.Need-sub-four-distances-f32 Inv-loop μ-loop
-sub-four-distances-f32 c = search needs
-
-part-four-distances-f32-start : tie.Need-part-four-distances-f32-start Inv-loop μ-loop
-part-four-distances-f32-start c = search needs
-
-part-four-distances-f32-end : tie.Need-part-four-distances-f32-end Inv-loop μ-loop
-part-four-distances-f32-end c = omega (arith, inside c)
-
-mul-four-distances-f32-2 : tie.Need-mul-four-distances-f32-2 Inv-loop μ-loop
-mul-four-distances-f32-2 c = record { fits = omega (arith, inside (c .before), c .before .before .before .before .before .good .0 .1) }
-
-sub-four-distances-f32-2 : tie.Need-sub-four-distances-f32-2 Inv-loop μ-loop
-sub-four-distances-f32-2 c = search needs
-
-part-four-distances-f32-start-2 : tie.Need-part-four-distances-f32-start-2 Inv-loop μ-loop
-part-four-distances-f32-start-2 c = search needs
-
-part-four-distances-f32-end-2 : tie.Need-part-four-distances-f32-end-2 Inv-loop μ-loop
-part-four-distances-f32-end-2 c = omega (arith, inside (c .before))
-
-mul-four-distances-f32-3 : tie.Need-mul-four-distances-f32-3 Inv-loop μ-loop
-mul-four-distances-f32-3 c = record { fits = omega (arith, inside (c .before .before), c .before .before .before .before .before .before .good .0 .1) }
-
-sub-four-distances-f32-3 : tie.Need-sub-four-distances-f32-3 Inv-loop μ-loop
-sub-four-distances-f32-3 c = search needs
-
-part-four-distances-f32-start-3 : tie.Need-part-four-distances-f32-start-3 Inv-loop μ-loop
-part-four-distances-f32-start-3 c = search needs
-
-part-four-distances-f32-end-3 : tie.Need-part-four-distances-f32-end-3 Inv-loop μ-loop
-part-four-distances-f32-end-3 c = omega (arith, inside (c .before .before))
-
-mul-four-distances-f32-4 : tie.Need-mul-four-distances-f32-4 Inv-loop μ-loop
-mul-four-distances-f32-4 c = record { fits = omega (arith, inside (c .before .before .before), c .before .before .before .before .before .before .before .good .0 .1) }
-
-sub-four-distances-f32-4 : tie.Need-sub-four-distances-f32-4 Inv-loop μ-loop
-sub-four-distances-f32-4 c = search needs
-
-part-four-distances-f32-start-4 : tie.Need-part-four-distances-f32-start-4 Inv-loop μ-loop
-part-four-distances-f32-start-4 c = search needs
-
-part-four-distances-f32-end-4 : tie.Need-part-four-distances-f32-end-4 Inv-loop μ-loop
-part-four-distances-f32-end-4 c = omega (arith, inside (c .before .before .before))
-
-four-distances-f32-requires : tie.Need-four-distances-f32-requires Inv-loop μ-loop
-four-distances-f32-requires c κs =
-    let q = c .before .before .before .before in
-    let l = q .before .loop in
-    let a = q .before .before .before .before .args in
-    let k = length (a .block .now) in
-    let cw = a .codewords .now in
-    let fine = q .before .before .before .before .pre .2 in
-    let h = inside q in (
-      part-length cw (l .i) k (l .at) (l .inv .2) (omega arith),
-      part-length cw (l .i + 1) k (l .at + k) (second (l .i) k (l .at) (l .inv .2)) (omega arith),
-      part-length cw (l .i + 2) k (l .at + k + k) (third (l .i) k (l .at) (l .inv .2)) (omega arith),
-      part-length cw (l .i + 3) k (l .at + k + k + k) (fourth (l .i) k (l .at) (l .inv .2)) (omega arith),
-      part-finite cw (l .i) k (l .at) (l .inv .2) (omega arith) fine,
-      part-finite cw (l .i + 1) k (l .at + k) (second (l .i) k (l .at) (l .inv .2)) (omega arith) fine,
-      part-finite cw (l .i + 2) k (l .at + k + k) (third (l .i) k (l .at) (l .inv .2)) (omega arith) fine,
-      part-finite cw (l .i + 3) k (l .at + k + k + k) (fourth (l .i) k (l .at) (l .inv .2)) (omega arith) fine,
-    )
-
-nearer-requires : tie.Need-nearer-requires Inv-loop μ-loop
-nearer-requires c κs = tt
-
-add-nearer : tie.Need-add-nearer Inv-loop μ-loop
-add-nearer c = record { fits = omega (arith, index-fits (c .before .before .before .before .before .before)) }
-
-nearer-requires-2 : tie.Need-nearer-requires-2 Inv-loop μ-loop
-nearer-requires-2 c κs = tt
-
-add-nearer-2 : tie.Need-add-nearer-2 Inv-loop μ-loop
-add-nearer-2 c = record { fits = omega (arith, index-fits (c .before .before .before .before .before .before .before)) }
-
-nearer-requires-3 : tie.Need-nearer-requires-3 Inv-loop μ-loop
-nearer-requires-3 c κs = tt
-
-add-nearer-3 : tie.Need-add-nearer-3 Inv-loop μ-loop
-add-nearer-3 c = record { fits = omega (arith, index-fits (c .before .before .before .before .before .before .before .before)) }
-
-nearer-requires-4 : tie.Need-nearer-requires-4 Inv-loop μ-loop
-nearer-requires-4 c κs = tt
+nearer-four-requires : tie.Need-nearer-four-requires Inv-loop μ-loop
+nearer-four-requires c κs = let q = c .before in omega (arith, four-left q, q .before .before .before .before .fits .count .fits)
 
 add-i : tie.Need-add-i Inv-loop μ-loop
-add-i c = record { fits = index-fits (c .before .before .before .before .before .before .before .before .before) }
-
-add-turn : tie.Need-add-turn Inv-loop μ-loop
-add-turn c = record { fits = omega (arith, index-fits (c .before .before .before .before .before .before .before .before .before), c .before .before .before .before .before .before .before .before .before .loop-test .taken, c .before .before .before .before .before .before .before .before .before .before .loop .inv .1) }
+add-i c = let q = c .before .before in record { fits = omega (arith, four-left q, q .before .before .before .before .fits .count .fits) }
 
 loop-less : tie.Need-loop-less Inv-loop μ-loop
-loop-less c = omega (arith, c .before .before .before .before .before .before .before .before .before .loop-test .taken)
+loop-less c = search needs
 
 loop-again : tie.Need-loop-again Inv-loop μ-loop
 loop-again c =
-    let q = c .before .before .before .before .before .before .before .before .before in
+    let q = c .before .before in
     let l = q .before .loop in
     let a = q .before .before .before .before .args in
     let k = length (a .block .now) in
-    let f = c .before .before .before .before .four-distances-f32 in (
-      omega (arith, q .loop-test .taken),
-      omega (arith, l .inv .1),
-      next (l .i) k (l .at) (l .inv .2),
-      four-more (vectorOf (a .block .now)) (a .codewords .now) (l .i) k (l .at) (f .result) (l .best) (c .before .before .before .nearer .result) (c .before .before .nearer2 .result) (c .before .nearer3 .result) (c .nearer4 .result) (l .inv .2) (f .ensures) (l .inv .3)
-          (c .before .before .before .nearer .ensures) (c .before .before .nearer2 .ensures) (c .before .nearer3 .ensures) (c .nearer4 .ensures),
-    )
+    let f = c .before .distances-from-f32 in
+    (four-left q, omega (arith, l .inv .1), four-more (vectorOf (a .block .now)) (rowOf k (a .codewords .now)) (l .i) k (f .result) (l .best) (c .nearer-four .result) (f .ensures) (l .inv .2) (c .nearer-four .ensures))
 
 returns : tie.Need-returns Inv-loop μ-loop
 returns c =
     let a = c .before .before .before .before .args in
-    let e : c .before .loop .i ≡ a .fours * 4 = omega arith in
-    c .before .loop .inv .3 ∙ ap (λ (m : ℕ). nearest (length (a .block .now)) m (rowOf (length (a .block .now)) (a .codewords .now)) (vectorOf (a .block .now))) e
+    let e : c .before .loop .i ≡ a .count = omega arith in
+    c .before .loop .inv .2 ∙ ap (λ (m : ℕ). chosen (length (a .block .now)) m (rowOf (length (a .block .now)) (a .codewords .now)) (vectorOf (a .block .now))) e
 
 pub search-fours-f32-spec : {M : Type 1} → statement M
 search-fours-f32-spec =
@@ -176,38 +66,11 @@ search-fours-f32-spec =
     (tie.spec
     Inv-loop
     μ-loop
-    float-from-bits-t17
+    float-from-bits-t6
     loop-holds
-    add-at2
-    add-at3
-    add-at4
-    add-end
-    mul-four-distances-f32
-    sub-four-distances-f32
-    part-four-distances-f32-start
-    part-four-distances-f32-end
-    mul-four-distances-f32-2
-    sub-four-distances-f32-2
-    part-four-distances-f32-start-2
-    part-four-distances-f32-end-2
-    mul-four-distances-f32-3
-    sub-four-distances-f32-3
-    part-four-distances-f32-start-3
-    part-four-distances-f32-end-3
-    mul-four-distances-f32-4
-    sub-four-distances-f32-4
-    part-four-distances-f32-start-4
-    part-four-distances-f32-end-4
-    four-distances-f32-requires
-    nearer-requires
-    add-nearer
-    nearer-requires-2
-    add-nearer-2
-    nearer-requires-3
-    add-nearer-3
-    nearer-requires-4
+    distances-from-f32-requires
+    nearer-four-requires
     add-i
-    add-turn
     loop-less
     loop-again
     returns)
