@@ -1,5 +1,6 @@
--- Demand 3 on codes: `encoded-blocks`; and `round-trip`. For any call of encode. Assumes nothing.
-use mathlib.Core.Path.{_≡_, sym, ap, _∙_, subst}
+-- Demand 3 on codes: `encoded-blocks`; the number of tied blocks: `tied-blocks`, and `answered-alike`, that there is no
+-- number without a frame nor a frame without a number; and `round-trip`. For any call of encode. Assumes nothing.
+use mathlib.Core.Path.{_≡_, refl, sym, ap, _∙_, subst}
 use Prim.Native.Nat.{ℕ, zero, suc, _+_, _*_, _/_, _%_, _^_, _<_, zero-le}
 use native.Mathlib.Nat.{le-refl, le-trans, le-of-eq, le-of-lt, mul-one, zero-mul}
 use native.Mathlib.Omega.{arith}
@@ -10,21 +11,25 @@ use lib.ListN.{length, getD}
 use lib.Ieee.{Float, nan, inf, fin, binary32, up, down, fits}
 use lib.Ieee.Fits.{and-r}
 use lib.Ieee.Scale.{finite}
-use Rattle.error.specs.Numbers.{completed}
+use Rattle.error.specs.Numbers.{Outcome, completed, refused, andThen, accepted}
 use Rattle.ieee.specs.Bounds.{Upto, NotNegative}
 use Rattle.ieee.proofs.Bound.{upto-finite, upto-mono}
 use Rattle.slices.specs.Limit.{firstOutside, firstNotFinite}
 use Rattle.lloyd_search.specs.Distance.{rowOf, distance}
-use Rattle.lloyd_search.specs.Nearest.{nearest, Least}
+use Rattle.lloyd_search.specs.Nearest.{nearest, another, tiedAt, Least}
 use Rattle.lloyd_search.proofs.Parts.{row-place}
 use Rattle.lloyd_search.proofs.LimitLaw.{all-within, passed-bounded}
 use Rattle.lloyd_search.proofs.FiniteLaw.{finite-distance}
+use Rattle.slices.specs.First.{countWhere}
 use Rattle.slices.proofs.FirstLaw.{all-finite}
+use Rattle.slices.proofs.CountLaw.{count-ext}
 use Rattle.norm.proofs.NormLaw.{norm-written}
 use Rattle.decode.specs.Decode.{values, matrixLimit, indicesOf}
-use Rattle.encode.specs.Encode.{EncodeCall, normOf, searched, encoding}
+use Rattle.encode.specs.Encode.{EncodeCall, normOf, searched, tiedFor, tiedBlocks, frameFor, codable, encoding, counting}
 use Rattle.encode.proofs.EncodeLaw.{getD-indices}
-use Rattle.claim_codes.specs.Codes.{blockOf, distanceTo, FirstNearest, EncodedBlock, EncodedBlocks, RoundTrip}
+use Rattle.encode.proofs.CheckLaw.{counting-is}
+use Rattle.error.proofs.Outcomes.{then-completed}
+use Rattle.claim_codes.specs.Codes.{blockOf, distanceTo, FirstNearest, EncodedBlock, EncodedBlocks, TiedBlocks, RoundTrip}
 use Rattle.claim_codes.proofs.FrameLaw.{Encoded, encoded, parts, headed, indices-are, round-trip-of}
 use Rattle.claim_codes.proofs.SearchedLaw.{block-upto}
 use Rattle.claim_codes.proofs.LeastLaw.{least-found, distance-real}
@@ -87,16 +92,22 @@ module _ (c : EncodeCall) (frame : List ℕ) where
           (λ j g. fits-upto (rowOf k (c .codewords) m j) (f (m * k + j) (place m j h g)) (valued .codewords-finite (m * k + j) (place m j h g))) .partial-sums k (le-refl k)
 
       -- the codeword that the search names
+      least : Least (distanceTo c i) n (nearest k n (rowOf k (c .codewords)) (blockOf c i))
+      least = let b = q .passes .valid .shape .book-least in least-found (distanceTo c i) n (omega arith) distances-real
+
       found : FirstNearest (distanceTo c i) n (nearest k n (rowOf k (c .codewords)) (blockOf c i) .index)
-      found =
-          let b = q .passes .valid .shape .book-least in
-          let r = least-found (distanceTo c i) n (omega arith) distances-real in
-          subst (λ (x : Float). Least (distanceTo c i) n (record { index = nearest k n (rowOf k (c .codewords)) (blockOf c i) .index; distance = x })) (r .is) r
+      found = subst (λ (x : Float). Least (distanceTo c i) n (record { index = nearest k n (rowOf k (c .codewords)) (blockOf c i) .index; distance = x })) (least .is) least
 
       index-is : getD (indicesOf (parts c frame q)) i 0 ≡ nearest k n (rowOf k (c .codewords)) (blockOf c i) .index
       index-is =
           ap (λ (xs : List ℕ). getD xs i 0) (indices-are c frame q)
           ∙ getD-indices (d / k) k n (c .codewords) (searched d (c .matrix) (c .input) (normOf (c .input))) i l
+
+      -- its mark, said of the index in the frame
+      mark-is : tiedFor k n (c .codewords) (searched d (c .matrix) (c .input) (normOf (c .input))) i ≡ tiedAt (distanceTo c i) n (getD (indicesOf (parts c frame q)) i 0)
+      mark-is =
+          ap (λ (x : Float). another (distanceTo c i) n (record { index = nearest k n (rowOf k (c .codewords)) (blockOf c i) .index; distance = x })) (least .is)
+          ∙ ap (tiedAt (distanceTo c i) n) (sym index-is)
 
       block-encoded : EncodedBlock c i (getD (indicesOf (parts c frame q)) i 0)
       block-encoded = record {
@@ -111,5 +122,26 @@ module _ (c : EncodeCall) (frame : List ℕ) where
       let q = encoded c frame e in
       record { parts = parts c frame q; headed = headed c frame q; blocks = block-encoded q }
 
+  pub tied-blocks : encoding c ≡ completed frame → TiedBlocks c frame
+  unfolding encoded-blocks
+  tied-blocks e =
+      let q = encoded c frame e in
+      record {
+        coded = encoded-blocks e;
+        number-is = counted ∙ ap completed (count-ext (tiedFor (k q) (n q) (c .codewords) (searched (d q) (c .matrix) (c .input) (normOf (c .input)))) _ (d q / k q) (mark-is q));
+      }
+    where
+      counted : counting c ≡ completed (tiedBlocks (c .profile) (c .matrix) (c .codewords) (c .input))
+      counted =
+          let (bits, h, g) = then-completed (codable c) (λ bits. completed (frameFor (c .profile) (c .matrix) (c .codewords) (c .input) bits)) frame e in
+          counting-is c bits h
+
   pub round-trip : encoding c ≡ completed frame → RoundTrip c frame
   round-trip e = round-trip-of c frame (encoded c frame e)
+
+pub answered-alike : (c : EncodeCall) → accepted (counting c) ≡ accepted (encoding c)
+answered-alike c = go (codable c)
+  where
+    go : (o : Outcome ℕ) → accepted (andThen o (λ bits. completed (tiedBlocks (c .profile) (c .matrix) (c .codewords) (c .input)))) ≡ accepted (andThen o (λ bits. completed (frameFor (c .profile) (c .matrix) (c .codewords) (c .input) bits)))
+    go (completed bits) = refl
+    go (refused m values) = refl

@@ -1,6 +1,6 @@
--- What demand 3 claims of codes: `EncodedBlocks`; and that decoding gets back what was
--- encoded: `RoundTrip`. proofs/CodesLaw.antt proves both of every frame that `encoding`,
--- the definition of encode's own contract, is completed with. Definitions only.
+-- What demand 3 claims of codes: `EncodedBlocks`; what the number that comes with a code means: `TiedBlocks`; and that
+-- decoding gets back what was encoded: `RoundTrip`. proofs/CodesLaw.antt proves them of every frame that `encoding` is
+-- completed with. encode's own contract cites `encoding` for the frame and `counting` for the number. Definitions only.
 -- They speak of the frame's bytes: `parsed` and `indicesOf` read the published layout. d is the ambient
 -- dimension, k the block dimension, n the codebook size.
 use mathlib.Core.Path.{_≡_}
@@ -12,14 +12,15 @@ use lib.Ieee.{Float, nan, binary32, fits}
 use lib.Ieee.Scale.{finite}
 use Rattle.error.specs.Numbers.{completed}
 use Rattle.ieee.specs.Bounds.{NotNegative}
+use Rattle.slices.specs.First.{countWhere}
 use Rattle.narrow.specs.Format.{unpacked}
 use Rattle.compact.specs.Frame.{Parts, parsed, bytesOf}
 use Rattle.profile.specs.declared.FibQuantProfile.{FibQuantProfile}
 use Rattle.lloyd_search.specs.Distance.{rowOf, distance}
-use Rattle.lloyd_search.specs.Nearest.{Least}
+use Rattle.lloyd_search.specs.Nearest.{Least, tiedAt}
 use Rattle.norm.specs.Norm.{normBits}
 use Rattle.decode.specs.Decode.{DecodeCall, decoded, onlyFinite, decodable, decoding, indicesOf}
-use Rattle.encode.specs.Encode.{EncodeCall, normOf, searched, indicesFor}
+use Rattle.encode.specs.Encode.{EncodeCall, normOf, searched, indicesFor, counting}
 
 -- ---- a block, and its codeword
 
@@ -59,6 +60,14 @@ pub record EncodedBlocks (c : EncodeCall) (frame : List ℕ) : Type 0 where
   pub headed : Headed (c .profile) frame parts
   pub blocks : (i : ℕ) → i < c .profile .«ambient_dim» / c .profile .«block_dim»
       → EncodedBlock c i (getD (indicesOf parts) i 0)
+
+-- the number that encode answers with a frame: of its blocks, those for which another
+-- codeword is at the same distance as the one whose index stands in the frame
+pub record TiedBlocks (c : EncodeCall) (frame : List ℕ) : Type 0 where
+  pub coded : EncodedBlocks c frame
+  pub number-is : counting c ≡ completed (countWhere
+      (λ i. tiedAt (distanceTo c i) (c .profile .«codebook_size») (getD (indicesOf (coded .parts)) i 0))
+      (c .profile .«ambient_dim» / c .profile .«block_dim»))
 
 -- decoding a frame with the call's own profile, strings, matrix and codewords, for d values and 2 * d of float work
 abbrev pub decodingOf : EncodeCall → List ℕ → DecodeCall

@@ -5,11 +5,11 @@ use mathlib.Core.List.{List}
 use lib.ListN.{length}
 use lib.Ieee.{Float}
 use Rattle.error.specs.declared.Refusal.{Refusal}
-use Rattle.error.specs.Numbers.{Outcome, completed, refusal, andThen, ifCompleted, accepted, contents}
+use Rattle.error.specs.Numbers.{Outcome, completed, refusal, andThen, ifCompleted, contents}
 use Rattle.error.proofs.Refusals.{by-refusal, also-refused, also-then}
 use Rattle.profile.specs.Checks.{validity}
 use Rattle.decode.specs.Decode.{values}
-use Rattle.encode.specs.Encode.{EncodeCall, normOf, frameFor, lengths, normed, fitting, codable, encoding}
+use Rattle.encode.specs.Encode.{EncodeCall, normOf, frameFor, tiedBlocks, lengths, normed, fitting, codable, encoding, counting}
 
 -- ---- the checks, one after another
 module _ (c : EncodeCall) where
@@ -45,12 +45,16 @@ module _ (c : EncodeCall) where
   -- ---- the whole
   -- a refusal leaves the buffers as they were
   pub code-refused : (r : Refusal) (old : List ℕ) (new w : List Float) → codable c ≡ refusal r
-      → (refusal r ≡ accepted (encoding c)) × (old ≡ contents (encoding c) old) × (w ≡ ifCompleted (encoding c) new w)
+      → (refusal r ≡ counting c) × (old ≡ contents (encoding c) old) × (w ≡ ifCompleted (encoding c) new w)
   code-refused r old new w h =
       let frame : ℕ → Outcome (List ℕ) = λ bits. completed (frameFor (c .profile) (c .matrix) (c .codewords) (c .input) bits) in
+      let number : ℕ → Outcome ℕ = λ bits. completed (tiedBlocks (c .profile) (c .matrix) (c .codewords) (c .input)) in
       rw h
-      (by-refusal (λ (q : Outcome ℕ) (u : Outcome Unit). (u ≡ accepted (andThen q frame)) × (old ≡ contents (andThen q frame) old) × (w ≡ ifCompleted (andThen q frame) new w))
+      (by-refusal (λ (q u : Outcome ℕ). (u ≡ andThen q number) × (old ≡ contents (andThen q frame) old) × (w ≡ ifCompleted (andThen q frame) new w))
       (λ n values. (refl, refl, refl)) r)
 
   pub encoding-is : (bits : ℕ) → codable c ≡ completed bits → encoding c ≡ completed (frameFor (c .profile) (c .matrix) (c .codewords) (c .input) bits)
   encoding-is bits h = rw h
+
+  pub counting-is : (bits : ℕ) → codable c ≡ completed bits → counting c ≡ completed (tiedBlocks (c .profile) (c .matrix) (c .codewords) (c .input))
+  counting-is bits h = rw h

@@ -3,6 +3,7 @@ use mathlib.Core.Path.{_≡_, refl, sym, ap, _∙_}
 use Prim.Native.Nat.{ℕ, _+_, _^_, _≤_, _<_}
 use native.Mathlib.Nat.{le-of-eq, lt-of-lt-of-le}
 use native.Mathlib.Omega.{arith}
+use mathlib.Core.Bool.{Bool, cond}
 use mathlib.Core.List.{List, [], _∷_, _++_}
 use lib.ListN.{length, getD, take, drop, length-append, length-drop}
 use lib.Seq.{ext-getD, getD-drop, getD-append-add}
@@ -12,10 +13,13 @@ use Rattle.slices.proofs.ListLaw.{length-patched, patched-inside}
 use Rattle.slices.proofs.TabulateLaw.{length-tabulate, getD-tabulate}
 use Rattle.narrow.specs.Pack.{narrowTo}
 use Rattle.rotation.specs.Apply.{applied}
+use Rattle.lloyd_search.specs.declared.Choice.{Choice}
 use Rattle.lloyd_search.specs.Distance.{rowOf, distance}
+use Rattle.lloyd_search.specs.Choice.{chosen, markOf}
 use Rattle.lloyd_search.proofs.NearestLaw.{index-below}
+use Rattle.lloyd_search.proofs.TieLaw.{mark-means}
 use Rattle.decode.proofs.ListLaw.{take-patched}
-use Rattle.encode.specs.Encode.{normalizedAt, searchedAt, searched, indexFor, indicesFor}
+use Rattle.encode.specs.Encode.{normalizedAt, searchedAt, searched, indexFor, indicesFor, tiedFor}
 
 module _ (count k n : ℕ) (codewords xs : List Float) where
   pub length-indices : length (indicesFor count k n codewords xs) ≡ count
@@ -56,3 +60,9 @@ module _ (d : ℕ) (matrix input : List Float) (norm : Float) (w₀ w₁ w₂ w�
       (λ i l. let b : i < d = omega arith in
       getD-drop d w₃ i nan ∙ ap (λ (v : List Float). getD v (d + i) nan) e₃ ∙ patched-inside w₂ d d (λ j. narrowTo binary32 (getD w₂ (d + j) nan)) i nan (le-of-eq (sym length-halves)) b
       ∙ ap (narrowTo binary32) (second i) ∙ sym (getD-tabulate d (searchedAt d matrix input norm) i nan b))
+
+-- what the choice for block i adds to the number of tied blocks
+pub mark-counted : (k n i : ℕ) (codewords xs : List Float) (r : Choice) → r ≡ chosen k n (rowOf k codewords) (rowOf k xs i) → _≡_ {A = ℕ} (cond (markOf r) 1 0) (cond (tiedFor k n codewords xs i) 1 0)
+mark-counted k n i codewords xs r e =
+    let one : Bool → ℕ = λ b. cond b 1 0 in
+    ap (λ (c : Choice). one (markOf c)) e ∙ ap one (mark-means (λ m. distance k (rowOf k xs i) (rowOf k codewords m)) n)

@@ -1,15 +1,17 @@
--- What encoding a vector comes to: document 01's checks in their order, and the frame that is written. Definitions only.
+-- What encoding a vector comes to: document 01's checks in their order, the frame that is written, and the number of its
+-- tied blocks. Definitions only.
 -- d is the ambient dimension, k the block dimension, n the codebook size.
 use Prim.Native.Nat.{ℕ, _+_, _*_, _/_}
-use mathlib.Core.Bool.{cond}
+use mathlib.Core.Bool.{Bool, cond}
 use mathlib.Core.List.{List, [], _∷_}
 use lib.ListN.{length, getD}
 use lib.Ieee.{Float, nan, binary32, binary64, mul, div, eq}
 use Rattle.error.specs.Names.{codewordsSlice, floatWorkSlice, inputSlice, matrixSlice, outputSlice}
-use Rattle.error.specs.Numbers.{Outcome, completed, refused, whole, andThen, also, ofLength}
+use Rattle.error.specs.Numbers.{Outcome, completed, refused, refusal, whole, andThen, also, ofLength}
 use Rattle.ieee.specs.Sum.{plusZero, sumTo}
 use Rattle.slices.specs.declared.First.{First}
 use Rattle.slices.specs.declared.First.the-variants.{Nowhere, At}
+use Rattle.slices.specs.First.{countWhere}
 use Rattle.slices.specs.Lists.{tabulate}
 use Rattle.narrow.specs.Pack.{narrowTo}
 use Rattle.root.specs.Sqrt.{sqrtOf}
@@ -19,10 +21,12 @@ use Rattle.profile.specs.declared.FibQuantProfile.{FibQuantProfile}
 use Rattle.profile.specs.Checks.{validity}
 use Rattle.rotation.specs.Apply.{applied}
 use Rattle.lloyd_search.specs.Distance.{rowOf}
-use Rattle.lloyd_search.specs.Nearest.{nearest}
+use Rattle.lloyd_search.specs.Nearest.{nearest, tied}
 use Rattle.slices.specs.Limit.{firstNotFinite}
 use Rattle.norm.specs.Norm.{normBits}
 use Rattle.decode.specs.Decode.{values}
+use Rattle.encode.specs.declared.Encoded.{Encoded}
+use Rattle.encode.specs.declared.Encoded.the-variants.{Written, Refused}
 
 -- ---- what an encoding is given, but the contents of the buffers that it writes; of these the lengths
 pub record EncodeCall : Type 0 where
@@ -87,6 +91,19 @@ frameFor p matrix codewords input bits =
     let indices = indicesFor (d / k) k (p .«codebook_size») codewords (searched d matrix input (normOf input)) in
     frameOf (p .«wire_index_bits») (d / k) (bytesOf 2 bits) (packedBytes indices (p .«wire_index_bits»))
 
+-- ---- the tied blocks
+
+-- the mark of block i: another codeword is as near as the one chosen
+abbrev pub tiedFor : ℕ → ℕ → List Float → List Float → ℕ → Bool
+tiedFor k n codewords xs i = tied k n (rowOf k codewords) (rowOf k xs i)
+
+-- how many of the d / k blocks of an input have it
+abbrev pub tiedBlocks : FibQuantProfile → List Float → List Float → List Float → ℕ
+tiedBlocks p matrix codewords input =
+    let d = p .«ambient_dim» in
+    let k = p .«block_dim» in
+    countWhere (tiedFor k (p .«codebook_size») codewords (searched d matrix input (normOf input))) (d / k)
+
 -- ---- the checks
 
 -- the bytes of the frame: 11 before the norm, 2 for it, and those of the indices
@@ -131,3 +148,11 @@ codable c = also (fitting c) (normed (c .input) (normOf (c .input)))
 -- the whole: every check, and the frame
 abbrev pub encoding : EncodeCall → Outcome (List ℕ)
 encoding c = andThen (codable c) (λ bits. completed (frameFor (c .profile) (c .matrix) (c .codewords) (c .input) bits))
+
+-- the answer: every check, and the number of tied blocks
+abbrev pub counting : EncodeCall → Outcome ℕ
+counting c = andThen (codable c) (λ bits. completed (tiedBlocks (c .profile) (c .matrix) (c .codewords) (c .input)))
+
+abbrev pub encodedOf : Encoded → Outcome ℕ
+encodedOf (Written number) = completed number
+encodedOf (Refused r) = refusal r

@@ -5,24 +5,29 @@ use bitpack::BitWriter;
 use error::Checked;
 use error::Refusal;
 use error::names;
+use lloyd_search::Choice;
+use lloyd_search_f32::FourChoices;
 use norm::NormBits;
 use profile::FibQuantProfile;
 use slices::First;
 ghost use mathlib.Core.Path.{_≡_};
+ghost use mathlib.Core.Bool.{cond};
 ghost use mathlib.Core.List.{_++_};
 ghost use Prim.Native.Nat.{_+_, _*_, _/_, _≤_, _<_};
 ghost use lib.ListN.{length, getD, drop, replicate};
 ghost use lib.Ieee.{nan, binary32};
-ghost use Rattle.error.specs.Numbers.{checked, ifCompleted, accepted, contents};
+ghost use Rattle.error.specs.Numbers.{checked, ifCompleted, contents};
 ghost use Rattle.ieee.specs.Sum.{plusZero};
+ghost use Rattle.slices.specs.First.{countWhere};
 ghost use Rattle.slices.specs.Lists.{patched};
 ghost use Rattle.narrow.specs.Pack.{narrowTo};
 ghost use Rattle.bitpack.specs.Layout.{packedBit, packedBytes};
 ghost use Rattle.bitpack.specs.Cursor.{WriterAt};
 ghost use Rattle.compact.specs.Frame.{bytesOf, header, frameOf};
+ghost use Rattle.lloyd_search.specs.Choice.{markOf};
 ghost use Rattle.lloyd_search_f32.specs.Finite.{FiniteValues};
 ghost use Rattle.norm.specs.Norm.{bitsOf};
-ghost use Rattle.encode.specs.Encode.{encodeCall, normOf, normalizedAt, indicesFor, frameFor, lengths, normed, fitting, encoding};
+ghost use Rattle.encode.specs.Encode.{encodeCall, normOf, normalizedAt, indicesFor, frameFor, tiedFor, tiedBlocks, lengths, normed, fitting, encoding, counting, encodedOf};
 ghost use Rattle.encode.specs.Work.{Searchable, Writable};
 
 // The lengths of matrix, codewords, input, output and float work.
@@ -154,8 +159,32 @@ fn round_half(work: &mut [f64], d: usize)
     }
 }
 
+// 1 where another codeword is as near as the one chosen, else 0.
+fn count_one(choice: Choice) -> usize
+    ensures { λ r. ⌜ r ≡ cond (markOf choice) 1 0 ⌝ }
+{
+    if lloyd_search::is_tied(choice) { 1 } else { 0 }
+}
+
+// For how many of four blocks another codeword is as near as the one chosen.
+fn count_four(four: FourChoices) -> usize
+    ensures { λ r. ⌜ r ≡ cond (markOf (four .first)) 1 0 + cond (markOf (four .second)) 1 0
+        + cond (markOf (four .third)) 1 0 + cond (markOf (four .fourth)) 1 0 ⌝ }
+{
+    let first = four.first;
+    let second = four.second;
+    let third = four.third;
+    let fourth = four.fourth;
+    count_one(first) + count_one(second) + count_one(third) + count_one(fourth)
+}
+
+// The blocks passed: the writer after their indices, and for how many of them another codeword was as near.
+struct Blocks {
+    writer: BitWriter,
+    tied_blocks: usize,
+}
+
 // The packed indices of the whole fours of blocks, four searched at once so that a codeword is widened once for them.
-// Answers the writer after them.
 fn write_fours(
     codewords: &[f32],
     n: usize,
@@ -164,30 +193,36 @@ fn write_fours(
     width: u8,
     values: &[f64],
     output: &mut [u8],
-) -> BitWriter
+) -> Blocks
     requires { ⌜ (Searchable count k n width (length (now values)) (length (now codewords)) (length (now output)))
         × FiniteValues (now codewords) ⌝ }
     ensures { λ r. ⌜ WriterAt (packedBit (indicesFor count k n (now (codewords .entry)) (now (values .entry))) width)
-        (count / 4 * 4 * width) (now (output .entry)) (now (output .exit)) r ⌝ }
+        (count / 4 * 4 * width) (now (output .entry)) (now (output .exit)) (r .writer)
+        × (r .«tied_blocks» ≡ countWhere (tiedFor k n (now (codewords .entry)) (now (values .entry))) (count / 4 * 4)) ⌝ }
 {
     let fours = count / 4;
     let mut writer = BitWriter::new();
+    let mut tied_blocks = 0usize;
     let mut turn = 0usize;
     let mut at = 0usize;
     while turn < fours {
         let end = at + 4 * k;
         let found = lloyd_search_f32::search_four_f32(codewords, n, k, &values[at..end]);
-        writer = writer.push(found.first.index as u32, width, output);
-        writer = writer.push(found.second.index as u32, width, output);
-        writer = writer.push(found.third.index as u32, width, output);
-        writer = writer.push(found.fourth.index as u32, width, output);
+        writer = writer.push(found.first.found.index as u32, width, output);
+        writer = writer.push(found.second.found.index as u32, width, output);
+        writer = writer.push(found.third.found.index as u32, width, output);
+        writer = writer.push(found.fourth.found.index as u32, width, output);
+        tied_blocks = tied_blocks + count_four(found);
         at = end;
         turn += 1usize;
     }
-    writer
+    Blocks {
+        writer,
+        tied_blocks,
+    }
 }
 
-// The packed indices of the codewords that are nearest to the blocks.
+// The packed indices of the codewords that are nearest to the blocks. Returns for how many blocks another was as near.
 fn write_indices(
     codewords: &[f32],
     n: usize,
@@ -196,24 +231,29 @@ fn write_indices(
     width: u8,
     values: &[f64],
     output: &mut [u8],
-)
+) -> usize
     requires { ⌜ (Searchable count k n width (length (now values)) (length (now codewords)) (length (now output)))
         × FiniteValues (now codewords) ⌝ }
-    ensures { λ r. ⌜ now (output .exit)
-        ≡ packedBytes (indicesFor count k n (now (codewords .entry)) (now (values .entry))) width ⌝ }
+    ensures { λ r. ⌜ (now (output .exit)
+        ≡ packedBytes (indicesFor count k n (now (codewords .entry)) (now (values .entry))) width)
+        × (r ≡ countWhere (tiedFor k n (now (codewords .entry)) (now (values .entry))) count) ⌝ }
 {
-    let mut writer = write_fours(codewords, n, k, count, width, values, output);
+    let fours = write_fours(codewords, n, k, count, width, values, output);
+    let mut writer = fours.writer;
+    let mut tied_blocks = fours.tied_blocks;
     let mut i = count / 4 * 4;
     let mut at = i * k;
     while i < count {
         let end = at + k;
-        let found = lloyd_search_f32::search_f32(codewords, n, &values[at..end]);
-        let index = found.index;
+        let choice = lloyd_search_f32::search_f32(codewords, n, &values[at..end]);
+        let index = choice.found.index;
         writer = writer.push(index as u32, width, output);
+        tied_blocks = tied_blocks + count_one(choice);
         at = end;
         i += 1usize;
     }
     writer.finish(output);
+    tied_blocks
 }
 
 // The first 13 bytes of a frame: the header, and the norm's pattern.
@@ -226,7 +266,7 @@ fn write_front(width: u8, count: u32, bits: u16, output: &mut [u8])
     compact::write_part(&norm, output, 11);
 }
 
-// The whole frame, from the values that the search sees.
+// The whole frame, from the values that the search sees. Returns the number of its tied blocks.
 fn write_frame(
     codewords: &[f32],
     n: usize,
@@ -236,11 +276,12 @@ fn write_frame(
     bits: u16,
     values: &[f64],
     output: &mut [u8],
-)
+) -> usize
     requires { ⌜ (Searchable count k n width (length (now values)) (length (now codewords))
         (length (drop 13 (now output)))) × (13 ≤ length (now output)) × FiniteValues (now codewords) ⌝ }
-    ensures { λ r. ⌜ now (output .exit) ≡ frameOf width count (bytesOf 2 bits)
-        (packedBytes (indicesFor count k n (now (codewords .entry)) (now (values .entry))) width) ⌝ }
+    ensures { λ r. ⌜ (now (output .exit) ≡ frameOf width count (bytesOf 2 bits)
+        (packedBytes (indicesFor count k n (now (codewords .entry)) (now (values .entry))) width))
+        × (r ≡ countWhere (tiedFor k n (now (codewords .entry)) (now (values .entry))) count) ⌝ }
 {
     write_front(width, count, bits, output);
     write_indices(
@@ -251,10 +292,10 @@ fn write_frame(
         width,
         values,
         &mut output[13..],
-    );
+    )
 }
 
-// The frame of an input whose norm and its pattern are known. The work is zeroed.
+// The frame of an input whose norm and its pattern are known. Returns the number of its tied blocks. The work is zeroed.
 fn write_code(
     profile: FibQuantProfile,
     matrix: &[f64],
@@ -264,12 +305,13 @@ fn write_code(
     bits: u16,
     output: &mut [u8],
     work: &mut [f64],
-)
+) -> u32
     requires { ⌜ (Writable profile (length (now matrix)) (length (now codewords)) (length (now input))
         (length (now output)) (length (now work))) × FiniteValues (now codewords) × (norm ≡ normOf (now input)) ⌝ }
-    ensures { λ r. ⌜ now (output .exit)
-        ≡ frameFor profile (now (matrix .entry)) (now (codewords .entry)) (now (input .entry)) bits ⌝ }
-    ensures { λ r. ⌜ now (work .exit) ≡ replicate (length (now (work .entry))) plusZero ⌝ }
+    ensures { λ r. ⌜ (now (output .exit)
+        ≡ frameFor profile (now (matrix .entry)) (now (codewords .entry)) (now (input .entry)) bits)
+        × (now (work .exit) ≡ replicate (length (now (work .entry))) plusZero)
+        × (r ≡ tiedBlocks profile (now (matrix .entry)) (now (codewords .entry)) (now (input .entry))) ⌝ }
 {
     let d = input.len();
     let k = profile.block_dim;
@@ -279,7 +321,7 @@ fn write_code(
     normalize(input, norm, work);
     rotation::rotate_within(matrix, work, d);
     round_half(work, d);
-    write_frame(
+    let tied_blocks = write_frame(
         codewords,
         n as usize,
         k as usize,
@@ -290,10 +332,18 @@ fn write_code(
         output,
     );
     slices::zero_f64(work);
+    tied_blocks as u32
 }
 
-// The frame of a vector: its norm, and for each block the index of the nearest codeword. A refusal leaves both buffers
-// as they were. An input of the wrong length is refused before any of it is read.
+// The answer of an encoding. The frame is written, and for so many of its blocks another codeword was as near as the one
+// chosen; or it is refused.
+pub enum Encoded {
+    Written { tied_blocks: u32 },
+    Refused(Refusal),
+}
+
+// The frame of a vector: its norm, and for each block the index of the nearest codeword; and for how many blocks that was
+// a toss. A refusal leaves both buffers as they were. An input of the wrong length is refused before any of it is read.
 pub fn encode(
     profile: FibQuantProfile,
     schema: &[u8],
@@ -304,11 +354,11 @@ pub fn encode(
     input: &[f32],
     output: &mut [u8],
     work: &mut [f64],
-) -> Checked
+) -> Encoded
     ensures { λ r. ⌜ (let c = encodeCall profile (now (schema .entry)) (now («rotation_algorithm» .entry)) log2
         (now (matrix .entry)) (now (codewords .entry)) (now (input .entry))
         (length (now (output .entry))) (length (now (work .entry))) in
-        (checked r ≡ accepted (encoding c))
+        (encodedOf r ≡ counting c)
         × (now (output .exit) ≡ contents (encoding c) (now (output .entry)))
         × (now (work .exit) ≡ ifCompleted (encoding c)
         (replicate (length (now (work .entry))) plusZero) (now (work .entry)))) ⌝ }
@@ -325,15 +375,24 @@ pub fn encode(
         work.len(),
     );
     if let Checked::Refused(refusal) = checks {
-        return Checked::Refused(refusal);
+        return Encoded::Refused(refusal);
     }
     let norm = l2_norm(input);
     let pattern = check_norm(input, norm);
     match pattern {
-        NormBits::Refused(refusal) => Checked::Refused(refusal),
+        NormBits::Refused(refusal) => Encoded::Refused(refusal),
         NormBits::Bits(bits) => {
-            write_code(profile, matrix, codewords, input, norm, bits, output, work);
-            Checked::Accepted
+            let tied_blocks = write_code(
+                profile,
+                matrix,
+                codewords,
+                input,
+                norm,
+                bits,
+                output,
+                work,
+            );
+            Encoded::Written { tied_blocks }
         }
     }
 }

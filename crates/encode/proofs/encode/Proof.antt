@@ -4,11 +4,11 @@ use mathlib.Core.List.{List}
 use Prim.Native.Nat.{ℕ}
 use lib.ListN.{length, replicate}
 use lib.Ieee.{Float}
-use Rattle.error.specs.Numbers.{Outcome, completed, checked, ifCompleted, accepted, contents}
+use Rattle.error.specs.Numbers.{Outcome, completed, checked, ifCompleted, contents}
 use Rattle.ieee.specs.Sum.{plusZero}
 use Rattle.norm.specs.Norm.{bitsOf}
 use Rattle.encode.specs.Encode.{EncodeCall, encodeCall, normed, fitting, codable}
-use Rattle.encode.proofs.CheckLaw.{code-unfit, code-norm, code-refused, encoding-is}
+use Rattle.encode.proofs.CheckLaw.{code-unfit, code-norm, code-refused, encoding-is, counting-is}
 use Rattle.encode.proofs.AcceptLaw.{Fitting, fitting-accepted, writable, codewords-finite}
 use borrow.Author.Needs.{needs}
 use Rattle.encode.proofs.encode.Statement.{statement}
@@ -94,8 +94,9 @@ returns-3 c =
     let n = k .before .before .before in
     let s = start-of (n .before .before) in
     let said = c .before .before .before .before .write-code .ensures in
-    let whole = sym (encoding-is (call-of s) (k .before .pattern2 .given .0 .0) (sym (coded n) ∙ ap bitsOf (k .before .pattern2 .given .1))) in (
-      ap (λ (o : Outcome (List ℕ)). accepted o) whole,
+    let known = sym (coded n) ∙ ap bitsOf (k .before .pattern2 .given .1) in
+    let whole = sym (encoding-is (call-of s) (k .before .pattern2 .given .0 .0) known) in (
+      ap completed (said .2) ∙ sym (counting-is (call-of s) (k .before .pattern2 .given .0 .0) known),
       said .0 ∙ ap (λ (o : Outcome (List ℕ)). contents o (s .args .output .now)) whole,
       said .1 ∙ ap (λ (o : Outcome (List ℕ)). ifCompleted o (zeros s) (s .args .work .now)) whole,
     )

@@ -3,15 +3,18 @@
 use mathlib.Core.Path.{_≡_, refl, ap, _∙_}
 use mathlib.Core.List.{List}
 use Prim.Native.Nat.{ℕ, _-_, _/_}
+use native.Mathlib.Nat.{div-le-self}
 use native.Mathlib.Omega.{arith}
 use lib.ListN.{length, take, drop, replicate, length-drop}
 use lib.Seq.{take-all}
 use lib.Ieee.{Float}
 use Rattle.ieee.specs.Sum.{plusZero}
+use Rattle.slices.specs.First.{countWhere}
 use Rattle.slices.proofs.TabulateLaw.{length-tabulate}
+use Rattle.slices.proofs.CountLaw.{count-upto}
 use Rattle.bitpack.specs.Layout.{packedBytes}
 use Rattle.compact.specs.Frame.{bytesOf, frameOf}
-use Rattle.encode.specs.Encode.{searchedAt, searched, indicesFor}
+use Rattle.encode.specs.Encode.{normOf, searchedAt, searched, indicesFor, tiedFor, tiedBlocks}
 use Rattle.encode.proofs.EncodeLaw.{seen}
 use borrow.Author.Needs.{needs}
 use Rattle.encode.proofs.write_code.Statement.{statement}
@@ -93,18 +96,44 @@ same-length c = search needs
 same-length-2 : tie.Need-same-length-2
 same-length-2 c = search needs
 
+-- the values are those of the input over its own norm
+seen-by : (f : tie.After-write-frame-arg2) →
+    let s = start-of f in
+    let a = s .args in
+    let w = f .before .before .before .before .before .round-half .last .0 in
+    take (length w - length (a .input .now)) (drop (length (a .input .now)) w) ≡ searched (a .profile .«ambient_dim») (a .matrix .now) (a .input .now) (normOf (a .input .now))
+seen-by f =
+    let s = start-of f in
+    let a = s .args in
+    values f ∙ ap (λ (d : ℕ). searched d (a .matrix .now) (a .input .now) (a .norm)) (s .pre .0 .whole) ∙ ap (searched (a .profile .«ambient_dim») (a .matrix .now) (a .input .now)) (s .pre .2)
+
+counted : (c : tie.After-write-frame) →
+    let a = start-of (c .before) .args in
+    c .write-frame .result ≡ tiedBlocks (a .profile) (a .matrix .now) (a .codewords .now) (a .input .now)
+counted c =
+    let a = start-of (c .before) .args in
+    let p = a .profile in
+    c .write-frame .ensures .1 ∙ ap (λ (xs : List Float). countWhere (tiedFor (p .«block_dim») (p .«codebook_size») (a .codewords .now) xs) (p .«ambient_dim» / p .«block_dim»)) (seen-by (c .before))
+
+cast-result : tie.Need-cast-result
+cast-result c =
+    let w = c .before .before .before .before .before .before in
+    let s = start-of (w .before) in
+    let p = s .args .profile in
+    record { fits = omega (arith, counted w, count-upto (tiedFor (p .«block_dim») (p .«codebook_size») (s .args .codewords .now) (searched (p .«ambient_dim») (s .args .matrix .now) (s .args .input .now) (normOf (s .args .input .now)))) (p .«ambient_dim» / p .«block_dim»), div-le-self (p .«ambient_dim») (p .«block_dim»), w .before .before .before .before .before .before .before .before .before .before .before .before .before .before .before .before .struct-known .given) }
+
 returns : tie.Need-returns
 returns c =
-    let f = c .before .before .before .before .before .before .before in
+    let w = c .before .before .before .before .before .before in
+    let f = w .before in
     let s = start-of f in
     let a = s .args in
     let p = a .profile in
     let count = p .«ambient_dim» / p .«block_dim» in
     let frame : List Float → List ℕ = λ xs. frameOf (p .«wire_index_bits») count (bytesOf 2 (a .bits)) (packedBytes (indicesFor count (p .«block_dim») (p .«codebook_size») (a .codewords .now) xs) (p .«wire_index_bits»)) in (
-      c .before .before .before .before .before .before .write-frame .ensures ∙ ap frame (values f)
-          ∙ ap (λ (d : ℕ). frame (searched d (a .matrix .now) (a .input .now) (a .norm))) (s .pre .0 .whole)
-          ∙ ap (λ (x : Float). frame (searched (p .«ambient_dim») (a .matrix .now) (a .input .now) x)) (s .pre .2),
+      w .write-frame .ensures .0 ∙ ap frame (seen-by f),
       c .before .before .zero-f64 .ensures ∙ ap (λ (z : ℕ). replicate z plusZero) (same f),
+      counted w,
     )
 
 pub write-code-spec : {M : Type 1} → statement M
@@ -123,6 +152,7 @@ write-code-spec =
     part-write-frame-end
     write-frame-requires
     zero-f64-requires
+    cast-result
     same-length
     same-length-2
     returns)

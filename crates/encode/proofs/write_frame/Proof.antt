@@ -65,8 +65,11 @@ returns c =
     let s = c .before .before .before .before .before .before .before .before .before .before .before in
     let a = s .args in
     let w = c .before .before .before .before .before .before .write-front in
-    framed (a .width) (a .count) (a .bits) (a .output .now) (w .last .1 .1 .1 .0) (c .before .before .write-indices .last .1 .1 .1 .1 .1 .1 .0) (omega (arith, s .pre .1, w .kept .1 .1 .1 .0)) (w .ensures)
-    ∙ ap (frameOf (a .width) (a .count) (bytesOf 2 (a .bits))) (c .before .before .write-indices .ensures)
+    let i = c .before .before .write-indices .ensures in (
+      framed (a .width) (a .count) (a .bits) (a .output .now) (w .last .1 .1 .1 .0) (c .before .before .write-indices .last .1 .1 .1 .1 .1 .1 .0) (omega (arith, s .pre .1, w .kept .1 .1 .1 .0)) (w .ensures)
+          ∙ ap (frameOf (a .width) (a .count) (bytesOf 2 (a .bits))) (i .0),
+      i .1,
+    )
 
 pub write-frame-spec : {M : Type 1} → statement M
 write-frame-spec =
