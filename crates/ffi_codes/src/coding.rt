@@ -1,15 +1,31 @@
 // Encoding and decoding for the host. The fields of a profile are those of `fib_validate_profile`.
+use encode::Encoded;
+use ffi_crossing::put;
 use ffi_crossing::put_checked;
+use ffi_crossing::put_refusal;
 ghost use mathlib.Core.Path.{_≡_};
 ghost use lib.ListN.{length, replicate};
 ghost use Rattle.error.specs.Numbers.{ifCompleted, accepted, contents};
 ghost use Rattle.ieee.specs.Sum.{plusZero};
 ghost use Rattle.decode.specs.Decode.{decodeCall, decodable, decoding};
-ghost use Rattle.encode.specs.Encode.{encodeCall, encoding};
+ghost use Rattle.encode.specs.Encode.{encodeCall, encoding, counting, encodedOf};
 ghost use Rattle.ffi_profile.specs.Profiles.{profileFrom};
-ghost use Rattle.ffi_crossing.specs.Crossing.{found, crossed, none};
+ghost use Rattle.ffi_crossing.specs.Crossing.{found, crossed, none, oneWhole};
 
-// The frame of a vector into `output`, which must be as long as it.
+// The number of tied blocks, or the refusal.
+fn put_encoded(answer: Encoded, whole: &mut [u64; 4], real: &mut [f64; 2]) -> u32
+    ensures { λ r. ⌜ found r (now (whole .exit)) (now (real .exit)) ≡ crossed oneWhole (encodedOf answer) ⌝ }
+{
+    match answer {
+        Encoded::Written { tied_blocks } => {
+            put(0, [tied_blocks as u64, 0, 0, 0], [0.0, 0.0], whole, real)
+        }
+        Encoded::Refused(refusal) => put_refusal(refusal, whole, real),
+    }
+}
+
+// The frame of a vector into `output`, which must be as long as it; in whole[0] for how many of its blocks another
+// codeword is as near as the one chosen.
 #[no_mangle]
 pub extern "C" fn fib_encode(
     schema: &[u8],
@@ -46,7 +62,7 @@ pub extern "C" fn fib_encode(
         (now (schema .entry)) (now («rotation_algorithm» .entry)) log2
         (now (matrix .entry)) (now (codewords .entry)) (now (input .entry))
         (length (now (output .entry))) (length (now (work .entry))) in
-        (found r (now (whole .exit)) (now (real .exit)) ≡ crossed none (accepted (encoding c)))
+        (found r (now (whole .exit)) (now (real .exit)) ≡ crossed oneWhole (counting c))
         × (now (output .exit) ≡ contents (encoding c) (now (output .entry)))
         × (now (work .exit) ≡ ifCompleted (encoding c)
         (replicate (length (now (work .entry))) plusZero) (now (work .entry)))) ⌝ }
@@ -80,7 +96,7 @@ pub extern "C" fn fib_encode(
         output,
         work,
     );
-    put_checked(answer, whole, real)
+    put_encoded(answer, whole, real)
 }
 
 // The vector of a frame into `output`.

@@ -4,11 +4,20 @@ use ffi_crossing::put_refusal;
 use lloyd_alone::CodebookError;
 use lloyd_alone::NearestCodeword;
 ghost use mathlib.Core.Path.{_≡_};
+ghost use mathlib.Core.Bool.{cond};
 ghost use Rattle.lloyd_alone.specs.Answers.{nearestAlone, meanErrorAlone};
 ghost use Rattle.ffi_crossing.specs.Crossing.{found, crossed, oneReal};
 ghost use Rattle.ffi_codes.specs.Search.{foundIn};
 
-// The index in whole[0], its distance in real[0].
+// A mark as a number: 1, else 0.
+fn number_of(mark: bool) -> u64
+    ensures { λ r. ⌜ r ≡ cond mark 1 0 ⌝ }
+{
+    if mark { 1 } else { 0 }
+}
+
+// The index in whole[0], and in whole[1] whether another codeword has the same distance (1, else 0); the distance in
+// real[0].
 #[no_mangle]
 pub extern "C" fn fib_nearest(
     codewords: &[f64],
@@ -23,10 +32,12 @@ pub extern "C" fn fib_nearest(
 {
     let answer = lloyd_alone::nearest_index(codewords, codebook_size, block_dim, block);
     match answer {
-        NearestCodeword::Nearest(found) => {
+        NearestCodeword::Nearest(marked) => {
+            let found = marked.found;
+            let tied = number_of(marked.tied);
             put(
                 0,
-                [found.index as u64, 0, 0, 0],
+                [found.index as u64, tied, 0, 0],
                 [found.distance, 0.0],
                 whole,
                 real,

@@ -1,7 +1,7 @@
 -- `ffi_codes::coding::fib_encode` meets its contract: the answer
 -- crosses, and the buffers are the call's. Assumes nothing.
 use mathlib.Core.Path.{ap, _∙_}
-use Rattle.ffi_crossing.specs.Crossing.{crossed, none}
+use Rattle.ffi_crossing.specs.Crossing.{crossed, oneWhole}
 use borrow.Author.Needs.{needs}
 use Rattle.ffi_codes.proofs.coding.fib_encode.Statement.{statement}
 use Rattle.ffi_codes.proofs.coding.fib_encode.Tie as tie
@@ -12,8 +12,8 @@ profile-from-requires c κs = search needs
 encode-requires : tie.Need-encode-requires
 encode-requires c κs = search needs
 
-put-checked-requires : tie.Need-put-checked-requires
-put-checked-requires c κs = search needs
+put-encoded-requires : tie.Need-put-encoded-requires
+put-encoded-requires c κs = search needs
 
 same-length : tie.Need-same-length
 same-length c = search needs
@@ -25,7 +25,7 @@ returns : tie.Need-returns
 returns c =
     let d = c .before .before .before .before .before .before .before in
     let e = rw (d .before .before .before .profile-from .ensures) at (d .encode .ensures) in
-    (c .put-checked .ensures ∙ ap (crossed none) (e .0), e .1, e .2)
+    (c .put-encoded .ensures ∙ ap (crossed oneWhole) (e .0), e .1, e .2)
 
 pub fib-encode-spec : {M : Type 1} → statement M
 fib-encode-spec =
@@ -33,7 +33,7 @@ fib-encode-spec =
     (tie.spec
     profile-from-requires
     encode-requires
-    put-checked-requires
+    put-encoded-requires
     same-length
     same-length-2
     returns)

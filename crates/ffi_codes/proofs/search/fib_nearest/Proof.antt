@@ -15,6 +15,9 @@ nearest-index-requires c κs = search needs
 enum-known-answer : tie.Need-enum-known-answer
 enum-known-answer c = search needs
 
+number-of-requires : tie.Need-number-of-requires
+number-of-requires c κs = search needs
+
 put-requires : tie.Need-put-requires
 put-requires c κs = search needs
 
@@ -27,8 +30,9 @@ put-refusal-requires c κs = search needs
 returns : tie.Need-returns
 unfolding wholeValues realValues ofBits
 returns c =
-    let e = sym (ap nearestOf (c .before .before .before .before .answer .given .1)) ∙ c .before .before .before .before .before .before .nearest-index .ensures in
-    c .put .ensures ∙ ap (crossed foundIn) e
+    let q = c .before .before .before .before .before .before in
+    let e = sym (ap nearestOf (q .answer .given .1)) ∙ q .before .before .nearest-index .ensures in
+    c .put .ensures ∙ rw (c .before .before .before .number-of .ensures) (ap (crossed foundIn) e)
 
 returns-2 : tie.Need-returns-2
 returns-2 c =
@@ -41,6 +45,7 @@ fib-nearest-spec =
     (tie.spec
     nearest-index-requires
     enum-known-answer
+    number-of-requires
     put-requires
     enum-known-answer-2
     put-refusal-requires
