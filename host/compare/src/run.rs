@@ -129,6 +129,15 @@ impl Same for () {
     }
 }
 
+impl Same for bool {
+    fn same(&self, other: &Self) -> bool {
+        self == other
+    }
+    fn hex(&self) -> String {
+        self.to_string()
+    }
+}
+
 impl Same for str {
     fn same(&self, other: &Self) -> bool {
         self == other

@@ -52,6 +52,16 @@ pub fn fits<T: TryFrom<u64>>(value: u64) -> Result<T, Refusal> {
     T::try_from(value).map_err(|_| Refusal::FOREIGN)
 }
 
+/// A value that must be 0 or 1.
+#[inline]
+pub fn mark(value: u64) -> Result<bool, Refusal> {
+    match value {
+        0 => Ok(false),
+        1 => Ok(true),
+        _ => Err(Refusal::FOREIGN),
+    }
+}
+
 /// Declares an export that takes a profile's fields, and then these arguments.
 macro_rules! profile_export {
     ($name:ident($($after:ident: $after_type:ty),*)) => {

@@ -1,9 +1,10 @@
 //! Encoding of vectors into frames, and decoding.
 
-use crate::call::{call_checked, profile_export, with_profile};
+use crate::call::{call, call_checked, fits, profile_export, with_profile};
 use crate::frame::HEADER_LEN;
 use crate::{Profile, Refusal};
 
+// The number of tied blocks in whole[0].
 profile_export!(fib_encode(
     matrix: *const f64,
     matrix_len: usize,
@@ -30,7 +31,8 @@ profile_export!(fib_decode(
     work_len: usize
 ));
 
-/// Encodes d values into the exact frame, with a matrix of d × d, N×k codewords and 2×d floats of work.
+/// Encodes d values into the exact frame, with a matrix of d × d, N×k codewords and 2×d floats of work; answers the
+/// number of tied blocks, as [`Code`] has it.
 pub fn encode(
     profile: &Profile,
     matrix: &[f64],
@@ -38,8 +40,8 @@ pub fn encode(
     input: &[f32],
     output: &mut [u8],
     work: &mut [f64],
-) -> Result<(), Refusal> {
-    call_checked(|whole, real| unsafe {
+) -> Result<u32, Refusal> {
+    let (whole, _) = call((1, 0), |whole, real| unsafe {
         with_profile!(fib_encode(
             profile;
             matrix.as_ptr(),
@@ -55,7 +57,8 @@ pub fn encode(
             whole,
             real
         ))
-    })
+    })?;
+    fits(whole[0])
 }
 
 /// Decodes a frame into d values.
@@ -86,6 +89,15 @@ pub fn decode(
     })
 }
 
+/// What a vector is stored as, and how often that was a toss.
+#[derive(Debug, Clone, PartialEq, Eq)]
+pub struct Code {
+    /// The bytes to store.
+    pub frame: Vec<u8>,
+    /// How many of the d / k blocks have another codeword as near as the one chosen. The frame does not tell.
+    pub tied_blocks: u32,
+}
+
 /// A profile with its matrix and codewords, and work of its own: one for each thread.
 #[derive(Debug, Clone)]
 pub struct Coder<'a> {
@@ -111,11 +123,26 @@ impl<'a> Coder<'a> {
         self.frame_len
     }
 
-    /// The frame of d values.
-    pub fn encode(&mut self, input: &[f32]) -> Result<Vec<u8>, Refusal> {
-        let mut output = vec![0; self.frame_len];
-        encode(&self.profile, self.matrix, self.codewords, input, &mut output, &mut self.work)?;
-        Ok(output)
+    /// The code of d values.
+    ///
+    /// ```
+    /// use nuqtelya::{Coder, Profile};
+    ///
+    /// // Vectors of 4 values in blocks of 2, which the matrix leaves as they are; the codewords (2, 0) and (-2, 0).
+    /// let profile = Profile::paper_default(4, 2, 2, 7)?;
+    /// let matrix = [1., 0., 0., 0., 0., 1., 0., 0., 0., 0., 1., 0., 0., 0., 0., 1.];
+    /// let mut coder = Coder::new(profile, &matrix, &[2.0, 0.0, -2.0, 0.0])?;
+    ///
+    /// // The second block is as near to the one as to the other, and gets the first.
+    /// let code = coder.encode(&[3.0, 0.0, 0.0, 4.0])?;
+    /// assert_eq!(code.tied_blocks, 1);
+    /// assert_eq!(coder.decode(&code.frame)?, [10.0, 0.0, 10.0, 0.0]);
+    /// # Ok::<(), nuqtelya::Refusal>(())
+    /// ```
+    pub fn encode(&mut self, input: &[f32]) -> Result<Code, Refusal> {
+        let mut frame = vec![0; self.frame_len];
+        let tied_blocks = encode(&self.profile, self.matrix, self.codewords, input, &mut frame, &mut self.work)?;
+        Ok(Code { frame, tied_blocks })
     }
 
     /// The d values that a frame stands for.

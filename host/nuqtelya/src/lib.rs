@@ -23,11 +23,13 @@
 //! // The matrix would be a rotation; here it leaves a vector as it is.
 //! let matrix = [1., 0., 0., 0., 0., 1., 0., 0., 0., 0., 1., 0., 0., 0., 0., 1.];
 //! let mut coder = Coder::new(profile, &matrix, &trained.codewords)?;
-//! let frame = coder.encode(&[3.0, 0.0, -4.0, 0.0])?;
-//! assert_eq!(coder.decode(&frame)?, [10.0, 0.0, -10.0, 0.0]);
+//! let code = coder.encode(&[3.0, 0.0, -4.0, 0.0])?;
+//! assert_eq!(coder.decode(&code.frame)?, [10.0, 0.0, -10.0, 0.0]);
+//! // For no block another codeword was as near as the one chosen.
+//! assert_eq!(code.tied_blocks, 0);
 //!
 //! // A frame that was cut is refused, by number and in words.
-//! let refusal = coder.decode(&frame[..5]).unwrap_err();
+//! let refusal = coder.decode(&code.frame[..5]).unwrap_err();
 //! assert_eq!((refusal.number(), refusal.values()), (8, &[1][..]));
 //! assert_eq!(refusal.to_string(), "8: compact frame: under 11 bytes");
 //! # Ok::<(), nuqtelya::Refusal>(())
@@ -49,7 +51,7 @@ mod vectors;
 
 pub use arithmetic::{f16_to_f32, f32_to_f16, f64_to_f32, sqrt};
 pub use codebook::{check_codewords, codeword};
-pub use coder::{decode, encode, Coder};
+pub use coder::{decode, encode, Code, Coder};
 pub use frame::{parse_frame, write_frame, Frame, HEADER_LEN};
 pub use norm::{decode_norm, encode_norm};
 pub use packing::{pack_indices, unpack_indices};

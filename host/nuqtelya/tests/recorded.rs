@@ -95,7 +95,8 @@ fn codes() {
         for job in &coding.encodings {
             let (mut output, mut work) = (vec![PATTERN; frame_len], vec![REAL; 2 * d]);
             let answer = nuqtelya::encode(&profile, matrix, codewords, &job.input, &mut output, &mut work);
-            let answer = answer.map_err(refused).map(|()| output.clone());
+            // The number of tied blocks is not recorded: the published Rust counts none.
+            let answer = answer.map_err(refused).map(|_| output.clone());
             same("encoding under coder", place, &answer, &job.answer);
             holds(&work, if answer.is_ok() { 0 } else { PATTERN });
             if answer.is_err() {

@@ -71,6 +71,17 @@ pub mod probe {
         Ok(code.to_compact_bytes())
     }
 
+    /// The same, and the number of blocks with another codeword as near as the one chosen.
+    pub fn encode_counted(
+        input: &[f32],
+        codewords: &[f32],
+        matrix: &[f64],
+        profile: &Profile,
+    ) -> Answer<(Vec<u8>, u32)> {
+        let (frame, tied) = gpu_backend::counting_ties(|| encode(input, codewords, matrix, profile));
+        Ok((frame?, tied))
+    }
+
     pub fn decode(bytes: &[u8], codewords: &[f32], matrix: &[f64], profile: &Profile) -> Answer<Vec<f32>> {
         let code = FibCodeV1::from_compact_bytes(bytes, &profile.published()).map_err(refusal)?;
         quantizer(codewords, matrix, profile)?.decode(&code).map_err(refusal)

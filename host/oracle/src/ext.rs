@@ -103,7 +103,20 @@ pub mod nalgebra {
 /// The search of another crate, replaced by training's own search on widened values, as document 01 has it. Codewords are
 /// widened one at a time: the first of least distance among all is the first of those that are nearest by themselves.
 pub mod gpu_backend {
-    use crate::lloyd::nearest_index;
+    use crate::lloyd::{nearest_index, probe::tied};
+    use std::cell::Cell;
+
+    thread_local! {
+        /// The searches so far with another codeword as near as the one found; counted only while it is asked for.
+        static TIED: Cell<Option<u32>> = const { Cell::new(None) };
+    }
+
+    /// What `work` makes, and in how many of its searches another codeword was as near as the one found.
+    pub fn counting_ties<T>(work: impl FnOnce() -> T) -> (T, u32) {
+        TIED.set(Some(0));
+        let made = work();
+        (made, TIED.take().expect("a count"))
+    }
 
     pub fn nearest_codeword_f32(block: &[f32], codewords: &[f32], k: usize) -> usize {
         let block: Vec<f64> = block.iter().map(|v| f64::from(*v)).collect();
@@ -115,6 +128,10 @@ pub mod gpu_backend {
             if distance < least {
                 (best, least) = (index, distance);
             }
+        }
+        if let Some(count) = TIED.get() {
+            let wide: Vec<f64> = codewords.iter().map(|v| f64::from(*v)).collect();
+            TIED.set(Some(count + u32::from(tied(&block, &wide, k, best))));
         }
         best
     }

@@ -43,6 +43,18 @@ pub mod probe {
         (index as u64, distance)
     }
 
+    /// The squared distance of a block to one codeword, as a search among it alone finds it.
+    pub fn distance(block: &[f64], codeword: &[f64]) -> f64 {
+        super::nearest_index(block, codeword, codeword.len()).1
+    }
+
+    /// Whether a codeword other than `index` has the same distance as it.
+    pub fn tied(block: &[f64], codebook: &[f64], k: usize, index: usize) -> bool {
+        let chosen = distance(block, &codebook[index * k..(index + 1) * k]);
+        let same = |(other, codeword)| other != index && distance(block, codeword) == chosen;
+        codebook.chunks_exact(k).enumerate().any(same)
+    }
+
     pub fn mse_for_codebook(codebook: &[f64], k: usize, samples: &[f64]) -> Answer<f64> {
         super::mse_for_codebook(codebook, k, &split(samples, k)).map_err(refusal)
     }
@@ -100,8 +112,7 @@ pub mod probe {
         let mut distortion = vec![0.0; n];
         for (sample, &cell) in samples.iter().zip(assignments) {
             counts[cell] += 1;
-            // The distance to the cell's own codeword.
-            distortion[cell] += super::nearest_index(sample, &old[cell * k..(cell + 1) * k], k).1;
+            distortion[cell] += distance(sample, &old[cell * k..(cell + 1) * k]);
         }
         for event in events {
             let (donor, empty) = (event.donor_cell as usize, event.empty_cell as usize);

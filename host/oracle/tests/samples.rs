@@ -56,6 +56,9 @@ fn update() {
 #[test]
 fn search() {
     assert_eq!(lloyd::probe::nearest_index(&[0.0], &[1.0, -1.0], 1), (0, 1.0));
+    // Another as near as the one chosen: before or behind it, but not among those that are farther.
+    let tied = |codewords: [f64; 3], index| lloyd::probe::tied(&[0.0], &codewords, 1, index);
+    assert!(tied([1.0, 3.0, -1.0], 0) && tied([1.0, 3.0, -1.0], 2) && !tied([3.0, -3.0, 1.0], 2));
     let mean = lloyd::probe::mse_for_codebook(&[1.0, 3.0], 1, &[0.0, 3.0, 4.0, 5.0]);
     assert_eq!(mean.unwrap(), 1.5);
     assert_eq!(refusal(lloyd::probe::mse_for_codebook(&[1.0], 1, &[])), (1, vec![]));
@@ -155,6 +158,12 @@ fn codes() {
     assert_eq!(refusal(encode(&[0.0, f32::NAN, 0.0, 0.0])), (12, vec![1]));
     assert_eq!(refusal(encode(&[0.0; 4])), (13, vec![]));
     assert_eq!(refusal(encode(&[1e-9, 0.0, 0.0, 0.0])), (10, vec![]));
+    // A block (0, 1) lies in the middle of these; each call counts anew, and one that does not count leaves no trace.
+    let opposite = [1.0, 0.0, -1.0, 0.0];
+    for (input, tied) in [([0.0, 1.0, 0.0, 1.0], 2), ([1.0, 0.0, 0.0, 1.0], 1), ([1.0, 0.0, -1.0, 0.0], 0)] {
+        let frame = codec::probe::encode(&input, &opposite, &unit, &good).unwrap();
+        assert_eq!(codec::probe::encode_counted(&input, &opposite, &unit, &good).unwrap(), (frame, tied));
+    }
     let header = codec::probe::to_compact_bytes(2, 2, &[0, 0x3c], &[0]);
     assert_eq!(refusal(codec::probe::decode(&header, &codewords, &unit, &good)), (17, vec![]));
     let large = [0.0, 0.0, f32::NAN, 0.0];

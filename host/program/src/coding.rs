@@ -5,7 +5,7 @@ use crate::book::Book;
 use crate::failure::{Done, Failure};
 use crate::files::{Input, Output};
 use crate::progress::Progress;
-use crate::{memory, say};
+use crate::{memory, report, say};
 use nuqtelya::{Coder, Profile, Refusal};
 use std::ffi::OsString;
 use std::path::Path;
@@ -18,12 +18,14 @@ pub fn encode_command(words: impl IntoIterator<Item = OsString>) -> Done<()> {
     let (book, vectors, out) = (args.needed_path("codebook")?, args.needed_path("vectors")?, args.needed_path("out")?);
     Output::apart(&out, &[&book, &vectors])?;
     let book = Book::read(&book)?;
-    let (count, size) = encode(&book, &vectors, &out)?;
+    let encoded = encode(&book, &vectors, &out)?;
+    let Encoded { count, size, .. } = encoded;
     say(&format!(
-        "{count} vectors of {} bytes became codes of {size} bytes: {} in {}\n",
+        "{count} vectors of {} bytes became codes of {size} bytes: {} in {}\n{}",
         4 * book.profile.ambient_dim,
         memory::size(count * size),
-        out.display()
+        out.display(),
+        report::tosses(&book.profile, &encoded)
     ))
 }
 
@@ -35,14 +37,25 @@ pub fn decode_command(words: impl IntoIterator<Item = OsString>) -> Done<()> {
     say(&format!("{count} codes became vectors of {size} bytes: {} in {}\n", memory::size(count * size), out.display()))
 }
 
-/// Writes the codes of all vectors; gives their number and the bytes of one.
-pub fn encode(book: &Book, vectors: &Path, out: &Path) -> Done<(u64, u64)> {
+/// The codes that were written.
+pub struct Encoded {
+    pub count: u64,
+    /// The bytes of one.
+    pub size: u64,
+    /// Blocks of all codes with another codeword as near as the one chosen, and the codes that have such a block.
+    pub tied_blocks: u64,
+    pub tied_codes: u64,
+}
+
+/// Writes the codes of all vectors.
+pub fn encode(book: &Book, vectors: &Path, out: &Path) -> Done<Encoded> {
     let d = book.profile.ambient_dim as usize;
     let coder = coder(book)?;
     let size = coder.frame_len();
     let mut input = Input::open(vectors)?;
     let count = input.pieces(4 * d as u64, "a vector")?;
     let mut output = Output::create(out)?;
+    let mut encoded = Encoded { count, size: size as u64, tied_blocks: 0, tied_codes: 0 };
     let mut parts = Parts::new("encoding", count);
     while let Some((first, len)) = parts.next() {
         let mut values = vec![0.0f32; len * d];
@@ -50,13 +63,19 @@ pub fn encode(book: &Book, vectors: &Path, out: &Path) -> Done<(u64, u64)> {
         let mut codes = vec![0u8; len * size];
         let made = on_all_processors((&values, d), (&mut codes, size), || {
             let mut coder = coder.clone();
-            move |vector: &[f32], code: &mut [u8]| coder.encode(vector).map(|bytes| code.copy_from_slice(&bytes))
+            move |vector: &[f32], code: &mut [u8]| {
+                let made = coder.encode(vector)?;
+                code.copy_from_slice(&made.frame);
+                Ok(made.tied_blocks)
+            }
         });
-        made.map_err(|(place, refusal)| at(vectors, "vector", first + place, refusal))?;
+        let tied = made.map_err(|(place, refusal)| at(vectors, "vector", first + place, refusal))?;
+        encoded.tied_blocks += tied.iter().map(|blocks| u64::from(*blocks)).sum::<u64>();
+        encoded.tied_codes += tied.iter().filter(|blocks| **blocks > 0).count() as u64;
         output.bytes(&codes)?;
     }
     output.finish()?;
-    Ok((count, size as u64))
+    Ok(encoded)
 }
 
 /// Writes the vectors of all codes; gives their number and the bytes of one.
@@ -121,13 +140,13 @@ impl Parts {
     }
 }
 
-/// Makes each output from its input, with a worker for each thread. The first refusal in the file's order comes back,
-/// with its place, whichever thread met one first.
-fn on_all_processors<I: Sync, O: Send, W: FnMut(&[I], &mut [O]) -> Result<(), Refusal>>(
+/// Makes each output from its input, with a worker for each thread; what the worker answers for each comes back in the
+/// file's order. So does the first refusal, with its place, whichever thread met one first.
+fn on_all_processors<I: Sync, O: Send, A: Send, W: FnMut(&[I], &mut [O]) -> Result<A, Refusal>>(
     (input, input_size): (&[I], usize),
     (output, output_size): (&mut [O], usize),
     worker: impl Fn() -> W + Sync,
-) -> Result<(), (u64, Refusal)> {
+) -> Result<Vec<A>, (u64, Refusal)> {
     let share = (input.len() / input_size).div_ceil(threads());
     let inputs = input.chunks(share * input_size);
     let outputs = output.chunks_mut(share * output_size);
@@ -139,15 +158,18 @@ fn on_all_processors<I: Sync, O: Send, W: FnMut(&[I], &mut [O]) -> Result<(), Re
                 scope.spawn(move || {
                     let mut work = worker();
                     let pairs = input.chunks(input_size).zip(output.chunks_mut(output_size));
-                    pairs.enumerate().try_for_each(|(place, (i, o))| work(i, o).map_err(|refusal| (place, refusal)))
+                    let answers =
+                        pairs.enumerate().map(|(place, (i, o))| work(i, o).map_err(|refusal| (place, refusal)));
+                    answers.collect::<Result<Vec<A>, _>>()
                 })
             })
             .collect();
         // In order; the scope waits for those that are left.
-        let mut ends = running.into_iter().enumerate().map(|(thread, running)| match running.join() {
-            Ok(end) => end.map_err(|(place, refusal)| ((thread * share + place) as u64, refusal)),
-            Err(panic) => std::panic::resume_unwind(panic),
-        });
-        ends.try_for_each(|end| end)
+        let mut answers = Vec::new();
+        for (thread, running) in running.into_iter().enumerate() {
+            let end = running.join().unwrap_or_else(|panic| std::panic::resume_unwind(panic));
+            answers.extend(end.map_err(|(place, refusal)| ((thread * share + place) as u64, refusal))?);
+        }
+        Ok(answers)
     })
 }

@@ -2,6 +2,7 @@
 
 use crate::args::Args;
 use crate::book::Book;
+use crate::coding::Encoded;
 use crate::failure::{Done, Failure};
 use crate::files::{Input, Output};
 use crate::random::{Purpose, Random};
@@ -45,9 +46,11 @@ pub fn command(words: impl IntoIterator<Item = OsString>) -> Done<()> {
 
     // From here on the files are all that is used, as another run would.
     let book = Book::read(&at("codebook.nuqt"))?;
-    let (count, size) = coding::encode(&book, &at("vectors.f32"), &at("codes.fb1"))?;
+    let encoded = coding::encode(&book, &at("vectors.f32"), &at("codes.fb1"))?;
     coding::decode(&book, &at("codes.fb1"), &at("decoded.f32"))?;
-    say(&format!("\n== encode, decode\n{}", report::sizes(&book.profile, size as usize)))?;
+    let Encoded { count, size, .. } = encoded;
+    let (sizes, tosses) = (report::sizes(&book.profile, size as usize), report::tosses(&book.profile, &encoded));
+    say(&format!("\n== encode, decode\n{sizes}{tosses}"))?;
     let (whole, stored, codebook) = (4 * DIM as u64 * count, size * count, length(&at("codebook.nuqt"))?);
     say(&format!("all: {whole} bytes of vectors, {stored} bytes of codes, {codebook} bytes of codebook\n"))?;
 

@@ -67,6 +67,9 @@ nuqtelya encode --codebook FILE --vectors FILE --out FILE
 
 Writes a code for each vector (binary32 values, as many for each as the codebook's vectors have). A vector that cannot
 be encoded, as one of zeros, is refused with its place, counted from 0, and nothing is written.
+
+At the end it says for how many blocks the choice of the codeword was a toss, since another codeword had the same
+distance (as it is rounded), and in how many of the codes. The first of them is stored; the codes do not tell.
 ";
 
 const DECODE: &str = "\
@@ -91,6 +94,6 @@ its codebook, whether all can be read.
 const DEMO: &str = "\
 nuqtelya demo [--folder FOLDER]
 
-Makes vectors, trains, encodes, decodes, and shows report, repairs, sizes, the error before and after, and a picture.
-The files stay in the folder (default: nuqtelya-demo in the system's folder for temporary files).
+Makes vectors, trains, encodes, decodes, and shows report, repairs, sizes, tosses, the error before and after, and a
+picture. The files stay in the folder (default: nuqtelya-demo in the system's folder for temporary files).
 ";

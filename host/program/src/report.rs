@@ -1,6 +1,7 @@
-//! What is told about a codebook and its training.
+//! What is told about a codebook, its training and its codes.
 
 use crate::book::Book;
+use crate::coding::Encoded;
 use crate::rotation::Rule;
 use nuqtelya::{Event, Profile, Winner, HEADER_LEN, SPLIT_HIGHEST_DISTORTION};
 use std::fmt::Write;
@@ -92,5 +93,15 @@ pub fn sizes(profile: &Profile, frame_len: usize) -> String {
         vector as f64 / frame_len as f64,
         profile.ambient_dim / profile.block_dim,
         profile.wire_index_bits
+    )
+}
+
+/// How many choices of a codeword were tosses.
+pub fn tosses(profile: &Profile, encoded: &Encoded) -> String {
+    let Encoded { count, tied_blocks, tied_codes, .. } = encoded;
+    let blocks = count * u64::from(profile.ambient_dim / profile.block_dim);
+    format!(
+        "tosses: {tied_blocks} of {blocks} blocks, in {tied_codes} of {count} codes (a toss: another codeword was as near \
+         as the one chosen)\n"
     )
 }

@@ -126,26 +126,38 @@ fn the_same_seed_gives_the_same_codebook() {
     assert_ne!(folder.read("book"), first);
 }
 
-#[test]
-fn what_is_handed_in_is_used() {
-    let folder = Folder::new("given");
+const GIVEN: &str = "train --dim 4 --block 2 --codewords 2 --samples samples --start start --matrices matrices \
+                     --rotation rotation --restarts 2 --iterations 5 --out book";
+
+/// A folder with all that GIVEN names. The codewords become (2, 0) and (-2, 0), and the rotation leaves a vector as it is.
+fn given(name: &str) -> Folder {
+    let folder = Folder::new(name);
     // Samples at 1, 3, -1 and -3; the trained codewords are their means in pairs.
     folder.write("samples", &bytes64([1.0, 0.0, 3.0, 0.0, -1.0, 0.0, -3.0, 0.0]));
     folder.write("start", &bytes64([1.0, 0.0, -1.0, 0.0]));
     folder.write("matrices", &bytes64([0.0, 1.0, 1.0, 0.0]));
     let unit = |at: usize| f64::from(u8::from(at.is_multiple_of(5)));
     folder.write("rotation", &bytes64((0..16).map(unit)));
-    let train = "train --dim 4 --block 2 --codewords 2 --samples samples --start start --matrices matrices \
-                 --rotation rotation --restarts 2 --iterations 5 --out book";
-    let said = folder.done(train);
+    folder
+}
+
+/// As many vectors as are worked on at a time.
+fn part() -> usize {
+    64 * std::thread::available_parallelism().map_or(1, usize::from)
+}
+
+#[test]
+fn what_is_handed_in_is_used() {
+    let folder = given("given");
+    let said = folder.done(GIVEN);
     assert!(said.contains("handed in: samples, start, restart matrices\nrotation: handed in"), "{said}");
     assert!(said.contains("start: 2.0") && said.contains("codebook: 1.0"), "{said}");
     assert!(folder.done("inspect book --values").contains("codeword 0: [2.0, 0.0]\ncodeword 1: [-2.0, 0.0]"));
     folder.write("samples", &bytes64([1.0, 0.0, 3.0, f64::NAN, -1.0, 0.0, -3.0, 0.0]));
-    folder.fails(train, 1, "refused by 18: value 3 of samples");
+    folder.fails(GIVEN, 1, "refused by 18: value 3 of samples");
     folder.write("turned", &bytes64((0..16).map(|at| if at == 5 { f64::INFINITY } else { 0.5 })));
     folder.fails(
-        &train.replace("--rotation rotation", "--rotation turned"),
+        &GIVEN.replace("--rotation rotation", "--rotation turned"),
         1,
         "turned: refused by 18: value 5 of matrices",
     );
@@ -304,6 +316,56 @@ fn vectors_that_cannot_be_encoded() {
     folder.fails("encode --codebook book --vectors nan --out codes", 1, "vector 1: refused by 12: value 3");
     folder.fails(&format!("{TRAIN} --vectors nan"), 3, "vector 1 has at place 3");
     assert_eq!(folder.read("codes"), b"the old ones");
+}
+
+#[test]
+fn the_first_refusal_of_all_threads_is_told() {
+    let folder = trained("first");
+    let mut vectors = values(8 * 3 * part());
+    // One for each thread of the second part, the last first.
+    for place in (part()..2 * part()).rev().step_by(64) {
+        vectors[8 * place..8 * (place + 1)].fill(0.0);
+        folder.write("zeros", &bytes32(&vectors));
+        let said = format!("vector {place}: refused by 13");
+        folder.fails("encode --codebook book --vectors zeros --out codes", 1, &said);
+    }
+}
+
+/// Between (2, 0) and (-2, 0) a block (0, 1) is a toss, and (1, 0) is none.
+#[test]
+fn tosses_are_counted() {
+    let folder = given("tosses");
+    folder.done(GIVEN);
+    let (toss, clear) = ([0.0, 1.0], [1.0, 0.0]);
+    let encode = |book: &str, vectors: &[[[f32; 2]; 2]]| {
+        folder.write("vectors", &bytes32(&vectors.concat().concat()));
+        let said = folder.done(&format!("encode --codebook {book} --vectors vectors --out codes"));
+        said.lines().last().expect("a line").to_string()
+    };
+    let told = |tosses: usize, codes: usize, count: usize| {
+        let blocks = 2 * count;
+        format!(
+            "tosses: {tosses} of {blocks} blocks, in {codes} of {count} codes (a toss: another codeword was as near as the \
+             one chosen)"
+        )
+    };
+    // Three whole parts, and two vectors more. Each third of them has 0, 1 and 2 tosses.
+    let count = 3 * part() + 2;
+    let kinds = [[clear, clear], [toss, clear], [toss, toss]];
+    let mixed: Vec<_> = (0..count).map(|place| kinds[place % 3]).collect();
+    assert_eq!(encode("book", &mixed), told(3 * part() + 1, 2 * part() + 1, count));
+    assert_eq!(encode("book", &mixed[..2]), told(1, 1, 2));
+    // All of them in one vector, in the part and the thread that come last or first.
+    for place in [0, count - 1] {
+        let mut vectors = vec![[clear, clear]; count];
+        assert_eq!(encode("book", &vectors), told(0, 0, count));
+        vectors[place] = [clear, toss];
+        assert_eq!(encode("book", &vectors), told(1, 1, count));
+    }
+    // Two equal codewords, before the rotation of 16 values and the check sum: a toss wherever a block lies.
+    let book = folder.read("book");
+    folder.write("twice", &changed(&book, book.len() - 8 - 8 * 16 - 8, &bytes32(&[2.0, 0.0])));
+    assert_eq!(encode("twice", &mixed), told(2 * count, count, count));
 }
 
 #[test]

@@ -1,4 +1,4 @@
-//! Encoding of vectors: the frame, and every buffer.
+//! Encoding of vectors: the frame, the number of tied blocks, and every buffer.
 
 use super::codes::{faulty, largest, Setup, FAULTS};
 use super::profile::{published, validity};
@@ -26,8 +26,17 @@ pub fn run(run: &mut Run) -> Outcome {
         right(run, &setup, &input)?;
     }
     wrong(run)?;
-    run.met(&[2, 6, 7, 10, 12, 13, 18], &[])
+    tied(run)?;
+    for _ in 0..run.rounds(2_000) {
+        repeated(run)?;
+    }
+    run.met(&[2, 6, 7, 10, 12, 13, 18], &[NO_BLOCK, SOME_BLOCKS, EVERY_BLOCK])
 }
+
+// What a code shows.
+const NO_BLOCK: &str = "no block tied";
+const SOME_BLOCKS: &str = "some blocks tied";
+const EVERY_BLOCK: &str = "every block tied";
 
 /// Small whole numbers in every way, so that most searches meet a tie.
 fn small(run: &mut Run) -> Outcome {
@@ -42,11 +51,48 @@ fn small(run: &mut Run) -> Outcome {
     Ok(())
 }
 
+/// Every choice of tied blocks among 2 to 11: those that lie between two opposite codewords, which stand anywhere among
+/// others that are farther and as far as each other.
+fn tied(run: &mut Run) -> Outcome {
+    for blocks in 2..=11 {
+        let d = 2 * blocks;
+        let unit: Vec<f64> = (0..d * d).map(|i| f64::from(i % (d + 1) == 0)).collect();
+        for choice in 0..1 << blocks {
+            let n = 2 + run.random.index(8);
+            let mut codewords = vec![[5.0, 5.0]; n];
+            let first = run.random.index(n);
+            let second = (first + 1 + run.random.index(n - 1)) % n;
+            (codewords[first], codewords[second]) = ([1.0, 0.0], [-1.0, 0.0]);
+            let setup = Setup::new(d, 2, n, unit.clone(), codewords.concat());
+            let block = |place| if choice >> place & 1 == 1 { [0.0, 1.0] } else { [1.0, 0.0] };
+            let input: Vec<[f32; 2]> = (0..blocks).map(block).collect();
+            right(run, &setup, &input.concat())?;
+        }
+    }
+    Ok(())
+}
+
+/// Codewords of which some stand twice or more, or also with the other sign.
+fn repeated(run: &mut Run) -> Outcome {
+    let random = &mut run.random;
+    let (blocks, k, n) = (2 + random.index(10), 1 + random.index(4), 2 + random.index(12));
+    let mut setup = Setup::random(random, blocks, k, n);
+    for _ in 0..random.index(n) {
+        let (from, to, sign) = (k * random.index(n), k * random.index(n), random.pick(&[1.0, 1.0, -1.0]));
+        (0..k).for_each(|j| setup.codewords[to + j] = sign * setup.codewords[from + j]);
+    }
+    encodings(run, &setup, 4)
+}
+
 fn random(run: &mut Run, blocks: usize, k: usize, n: usize, inputs: usize) -> Outcome {
     let setup = Setup::random(&mut run.random, blocks, k, n);
+    encodings(run, &setup, inputs)
+}
+
+fn encodings(run: &mut Run, setup: &Setup, inputs: usize) -> Outcome {
     for _ in 0..inputs {
         let input = vector(&mut run.random, setup.dim());
-        right(run, &setup, &input)?;
+        right(run, setup, &input)?;
     }
     Ok(())
 }
@@ -124,7 +170,14 @@ fn right(run: &mut Run, setup: &Setup, input: &[f32]) -> Outcome {
 fn case(run: &mut Run, setup: &Setup, input: &[f32], output_len: usize, work_len: usize) -> Outcome {
     // Completed, the output holds the frame and the work zeros; refused, both hold what they held.
     let expected = match expected(setup, input, output_len, work_len) {
-        Ok(frame) => (Ok(()), (frame, vec![0.0; work_len])),
+        Ok((frame, tied)) => {
+            run.see(match tied {
+                0 => NO_BLOCK,
+                _ if tied == setup.profile.ambient_dim / setup.profile.block_dim => EVERY_BLOCK,
+                _ => SOME_BLOCKS,
+            });
+            (Ok(tied), (frame, vec![0.0; work_len]))
+        }
         Err(refusal) => (Err(refusal), (lent(output_len), lent(work_len))),
     };
     let Setup { profile, log2, matrix, codewords } = setup;
@@ -135,12 +188,12 @@ fn case(run: &mut Run, setup: &Setup, input: &[f32], output_len: usize, work_len
     run.same("encode", &expected, &(answer, (output, work)), shown)
 }
 
-fn expected(setup: &Setup, input: &[f32], output: usize, work: usize) -> Answer<Vec<u8>> {
+fn expected(setup: &Setup, input: &[f32], output: usize, work: usize) -> Answer<(Vec<u8>, u32)> {
     validity(&setup.profile, setup.log2)?;
     setup.lengths()?;
     length(5, input.len() == setup.dim())?;
     length(6, output == setup.frame_len())?;
     length(7, work == 2 * setup.dim())?;
     setup.values()?;
-    probe::encode(input, &setup.codewords, &setup.matrix, &published(&setup.profile))
+    probe::encode_counted(input, &setup.codewords, &setup.matrix, &published(&setup.profile))
 }
