@@ -1,5 +1,5 @@
 -- The order of the finite floats: `<` is irreflexive, asymmetric and transitive, x < y ≤ z gives x < z, and where
--- neither x < y nor y < x, x == y. Assumes nothing.
+-- neither x < y nor y < x, x == y. Of any floats, x ≤ y < z gives x < z. Assumes nothing.
 use mathlib.Core.Path.{_≡_, sym, _∙_}
 use mathlib.Core.Logic.{_⊎_, inl, inr}
 use Prim.Native.Nat.{ℕ, _+_, _*_, _≤_, _<_}

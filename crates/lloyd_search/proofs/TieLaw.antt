@@ -62,7 +62,7 @@ module _ (d : ℕ → Float) where
   abbrev test : Found → ℕ → Bool
   test r m = not (eqb m (r .index)) && eq (d m) (r .distance)
 
-  -- the index found is that of the codeword before all only where there is none
+  -- the index found is the number of the next codeword only where none has been passed
   first-of-none : (n : ℕ) → n ≡ firstLeast d n .index → n ≡ 0
   first-of-none zero e = refl
   first-of-none (suc n) e = let l = index-below d (suc n) (zero-lt-suc n) in absurd (omega arith)
