@@ -1,5 +1,6 @@
 -- The order of the finite floats: `<` is irreflexive, asymmetric and transitive, x < y ≤ z gives x < z, and where
--- neither x < y nor y < x, x == y. Of any floats, x ≤ y < z gives x < z. Assumes nothing.
+-- neither x < y nor y < x, x == y. Of any floats, x ≤ y < z gives x < z, and x ≤ y ≤ z gives x ≤ z; of any but NaN,
+-- x ≤ y or y < x. Assumes nothing.
 use mathlib.Core.Path.{_≡_, sym, _∙_}
 use mathlib.Core.Logic.{_⊎_, inl, inr}
 use Prim.Native.Nat.{ℕ, _+_, _*_, _≤_, _<_}
@@ -7,7 +8,7 @@ use native.Mathlib.Nat.{le-trans, le-of-eq, lt-of-lt-of-le, lt-of-le-of-lt, lt-i
 use native.Mathlib.Omega.{arith}
 use mathlib.Core.Bool.{Bool, true, false, not, _&&_, _||_}
 use lib.Dec.{T, T-not, not-T, ltb, eqb, ltb→lt, lt→ltb, nltb→le, eqb→eq}
-use lib.Ieee.{Float, nan, inf, fin, up, down, below, level, lt, eq, le}
+use lib.Ieee.{Float, nan, inf, fin, up, down, below, level, lt, eq, le, isNan}
 use lib.Ieee.Fits.{down-pos, and-i, and-l, and-r, eq→eqb}
 use lib.Ieee.Scale.{finite}
 use lib.Ieee.Positive.{first-pos}
@@ -218,4 +219,67 @@ le-lt (fin s m e) (fin t n d) (inf u) a b = b
 le-lt (fin s m e) (fin t n d) (fin u o i) a b = elim (lt-or-not (fin s m e) (fin u o i)) [
   | inl l ↦ l
   | inr l ↦ absurd (T-not (lt (fin t n d) (fin s m e)) (le-not-lt (fin s m e) (fin t n d) a) (cut-lt (fin t n d) (fin u o i) (fin s m e) tt tt tt b l))
+]
+
+-- ---- `<=` of any floats
+pub or-left : (a b : Bool) → T a → T (a || b)
+or-left true b t = tt
+or-left false b t = absurd t
+
+pub or-right : (a b : Bool) → T b → T (a || b)
+or-right true b t = tt
+or-right false b t = t
+
+pub lt-le : (x y : Float) → T (lt x y) → T (le x y)
+unfolding le
+lt-le x y h = or-left (lt x y) (eq x y) h
+
+pub eq-le : (x y : Float) → T (eq x y) → T (le x y)
+unfolding le
+eq-le x y h = or-right (lt x y) (eq x y) h
+
+-- what is compared with `<=` is no NaN
+pub le-numbers : (x y : Float) → T (le x y) → T (not (isNan x)) × T (not (isNan y))
+unfolding lt eq le isNan
+le-numbers nan y h = absurd h
+le-numbers (inf s) nan h = absurd h
+le-numbers (inf s) (inf t) h = (tt, tt)
+le-numbers (inf s) (fin t n d) h = (tt, tt)
+le-numbers (fin s m e) nan h = absurd h
+le-numbers (fin s m e) (inf t) h = (tt, tt)
+le-numbers (fin s m e) (fin t n d) h = (tt, tt)
+
+pub finite-number : (x : Float) → T (finite x) → T (not (isNan x))
+unfolding isNan
+finite-number nan h = absurd h
+finite-number (inf s) h = tt
+finite-number (fin s m e) h = tt
+
+-- x ≤ y, or y < x. Of any floats but NaN
+finite-le-or-lt : (x y : Float) → T (finite x) → T (finite y) → T (le x y) ⊎ T (lt y x)
+finite-le-or-lt x y f g = elim (lt-or-not y x) [
+  | inl l ↦ inr l
+  | inr k ↦ inl (elim (lt-or-not x y) [ inl l ↦ lt-le x y l | inr h ↦ eq-le x y (eq-of-neither x y f g h k) ])
+]
+
+pub le-or-lt : (x y : Float) → T (not (isNan x)) → T (not (isNan y)) → T (le x y) ⊎ T (lt y x)
+unfolding lt eq le isNan
+le-or-lt nan y f g = absurd f
+le-or-lt (inf s) nan f g = absurd g
+le-or-lt (inf true) (inf true) f g = inl tt
+le-or-lt (inf true) (inf false) f g = inl tt
+le-or-lt (inf false) (inf true) f g = inr tt
+le-or-lt (inf false) (inf false) f g = inl tt
+le-or-lt (inf true) (fin t n d) f g = inl tt
+le-or-lt (inf false) (fin t n d) f g = inr tt
+le-or-lt (fin s m e) nan f g = absurd g
+le-or-lt (fin s m e) (inf true) f g = inr tt
+le-or-lt (fin s m e) (inf false) f g = inl tt
+le-or-lt (fin s m e) (fin t n d) f g = finite-le-or-lt (fin s m e) (fin t n d) tt tt
+
+-- x ≤ y ≤ z. Of any floats
+pub le-le : (x y z : Float) → T (le x y) → T (le y z) → T (le x z)
+le-le x y z a b = elim (le-or-lt x z (le-numbers x y a .0) (le-numbers y z b .1)) [
+  | inl l ↦ l
+  | inr l ↦ absurd (T-not (lt y x) (le-not-lt x y a) (le-lt y z x b l))
 ]

@@ -5,6 +5,7 @@
 -- Assumes nothing.
 use mathlib.Core.Path.{_≡_, refl, ap, _∙_, subst}
 use Prim.Native.Nat.{ℕ, _+_, _*_, _/_, _^_, _≤_, _<_}
+use native.Mathlib.Nat.{le-refl}
 use native.Mathlib.Omega.{arith}
 use mathlib.Core.Bool.{not}
 use mathlib.Core.List.{List, [], _∷_}
@@ -16,6 +17,8 @@ use borrow.Author.Tests.{not-false, eqb-true, eqb-false}
 use Rattle.ieee.specs.Bounds.{Upto}
 use Rattle.error.specs.Numbers.{completed, whole}
 use Rattle.error.proofs.Outcomes.{passed, completed-same}
+use Rattle.ieee.proofs.Order.{finite-number}
+use Rattle.slices.specs.declared.First.the-variants.{Nowhere}
 use Rattle.slices.specs.Limit.{firstOutside}
 use Rattle.lloyd_alone.specs.declared.Marked.{Marked}
 use Rattle.lloyd_search.specs.Distance.{distance, vectorOf, rowOf}
@@ -23,16 +26,24 @@ use Rattle.lloyd_search.specs.Nearest.{another, tiedAt, meanError, Least}
 use Rattle.lloyd_search.specs.Shape.{codebookShaped, samplesShaped}
 use Rattle.lloyd_search.specs.Finite.{FiniteNearest, FiniteMean}
 use Rattle.lloyd_alone.specs.Totals.{FiniteTotals}
+use Rattle.lloyd_alone.specs.Watch.{NoNan}
 use Rattle.lloyd_alone.specs.Answers.{searchLimit, marked, nearestAlone, meanErrorAlone}
 use Rattle.lloyd_search.proofs.Parts.{row-place}
 use Rattle.lloyd_search.proofs.ShapeLaw.{Codebook, Samples, codebook-shape, samples-shape, some-sample}
 use Rattle.lloyd_search.proofs.LimitLaw.{all-within, passed-bounded}
-use Rattle.lloyd_search.proofs.FiniteLaw.{Bounded, nearest-least, finite-nearest, finite-mean}
+use Rattle.lloyd_search.proofs.FiniteLaw.{Bounded, finite-distance, nearest-least, finite-nearest, finite-mean}
 use Rattle.lloyd_alone.proofs.TotalsLaw.{finite-totals}
 
 -- every row of a list that passes the check of magnitude is bounded
 rows-bounded : (b n k : ℕ) (xs : List Float) → ((i : ℕ) → i < length xs → Upto (getD xs i nan) (2 ^ b)) → length xs ≡ n * k → (i : ℕ) → i < n → Bounded b k (rowOf k xs i)
 rows-bounded b n k xs h e i l j m = h (i * k + j) (row-place i n k j (length xs) l m e)
+
+-- so no distance of such a block to such codewords is a NaN
+pub no-nan : (n k : ℕ) (codewords block : List Float) → k ≤ 256 → length codewords ≡ n * k → length block ≡ k → firstOutside searchLimit block ≡ Nowhere → firstOutside searchLimit codewords ≡ Nowhere
+    → NoNan k n (rowOf k codewords) (vectorOf block)
+no-nan n k codewords block few shape long b c i l =
+    finite-number _
+    (finite-distance 128 (lit≤ tt) k few (vectorOf block) (rowOf k codewords i) (λ j h. all-within 128 block b j (omega arith)) (rows-bounded 128 n k codewords (all-within 128 codewords c) shape i l) .partial-sums k (le-refl k))
 
 -- ---- nearest, called alone
 pub record NearestAccepted (n k : ℕ) (codewords block : List Float) (f : Marked) : Type 0 where

@@ -1,4 +1,5 @@
 mod SmallLaw
+mod PairLaw
 mod WatchLaw
 mod TotalsLaw
 pub mod AnswersLaw

@@ -1,26 +1,30 @@
--- A search that adds up its distances: where the sums are at most 2 ^ 250, so is every distance. Assumes nothing.
+-- A search in pairs that adds up its distances: it makes the choice that one makes in order, unless a distance is a NaN;
+-- and where the sums are at most 2 ^ 250, so is every distance. Assumes nothing.
 use mathlib.Core.Path.{_≡_, refl, sym, ap, _∙_, subst}
 use Prim.Native.Nat.{ℕ, zero, suc, _+_, _*_, _/_, _%_, _^_, _<_}
 use native.Mathlib.Nat.{add-zero, div-add-mod', div-lt-iff-lt-mul, mod-lt}
 use native.Mathlib.Omega.{arith}
 use native.Mathlib.Numerals.{add-one}
+use mathlib.Core.Bool.{not}
 use lib.Dec.{T, lit<}
-use lib.Ieee.{Float, binary64, add, lt, fits}
+use lib.Ieee.{Float, binary64, add, lt, fits, isNan}
 use lib.Ieee.Fits.{add-fits}
 use Rattle.ieee.specs.Bounds.{Upto}
 use Rattle.ieee.specs.Sum.{sumTo}
 use Rattle.ieee.proofs.Value.{holds-true}
 use Rattle.slices.proofs.FirstLaw.{below-suc}
+use Rattle.lloyd_search.specs.declared.Choice.{Choice}
 use Rattle.lloyd_search.specs.declared.Four.{Four}
 use Rattle.lloyd_alone.specs.declared.Watched.{Watched}
 use Rattle.lloyd_search.specs.Distance.{distance}
-use Rattle.lloyd_search.specs.Choice.{chosen, passingFour}
+use Rattle.lloyd_search.specs.Choice.{passing, passingFour}
 use Rattle.lloyd_search.specs.Four.{Distances}
 use Rattle.lloyd_alone.specs.Totals.{everyFourth, sumOfDistances}
-use Rattle.lloyd_alone.specs.Watch.{AllNear, watched, watching}
+use Rattle.lloyd_alone.specs.Watch.{AllNear, Watches, watching, passingTwo}
 use Rattle.lloyd_search.proofs.LimitLaw.{power}
 use Rattle.lloyd_search.proofs.Fours.{four-more}
 use Rattle.lloyd_search.proofs.FiniteLaw.{sumTo-fits, distance-fits}
+use Rattle.lloyd_alone.proofs.PairLaw.{two-in-order}
 use Rattle.lloyd_alone.proofs.SmallLaw.{NoMinus, add-no-minus, add-parts, sumTo-no-minus, sumTo-parts, lt-upto, distance-no-minus}
 
 -- one more term of a sum of every fourth
@@ -81,22 +85,35 @@ module _ (k : ℕ) (book : ℕ → ℕ → Float) (x : ℕ → Float) where
   fit : (i : ℕ) → T (fits binary64 (far i))
   fit i = holds-true (distance-fits k x (book i))
 
+  -- four more codewords in pairs are four more in order
+  in-order : (i : ℕ) (f : Four) (best : Choice) → T (not (isNan (f .first))) → T (not (isNan (f .third))) → passingTwo (passingTwo best i (f .first) (f .second)) (i + 2) (f .third) (f .fourth) ≡ passingFour best i f
+  in-order i f best one three =
+      let two = passing (passing best i (f .first)) (i + 1) (f .second) in
+      ap (λ (c : Choice). passingTwo c (i + 2) (f .third) (f .fourth)) (two-in-order best i (f .first) (f .second) one)
+      ∙ two-in-order two (i + 2) (f .third) (f .fourth) three
+      ∙ ap (λ (j : ℕ). passing (passing two (i + 2) (f .third)) j (f .fourth)) (omega arith)
+
   -- four more codewords, which are the first of the fours that are left
-  pub four-watched : (i : ℕ) (f : Four) (w r : Watched) → i ≡ i / 4 * 4 → Distances k x (book i) (book (i + 1)) (book (i + 2)) (book (i + 3)) f → w ≡ watched k i book x → r ≡ watching w i f
-      → r ≡ watched k (i + 4) book x
+  pub four-watched : (i : ℕ) (f : Four) (w r : Watched) → i ≡ i / 4 * 4 → Distances k x (book i) (book (i + 1)) (book (i + 2)) (book (i + 3)) f → Watches k i book x w → r ≡ watching w i f
+      → Watches k (i + 4) book x r
   four-watched i f w r whole d h e =
-      let best : passingFour (w .best) i f ≡ chosen k (i + 4) book x = four-more x book i k f (w .best) _ d (ap (λ (z : Watched). z .best) h) refl in
       let m = i / 4 in
       let next : m + 1 ≡ (i + 4) / 4 = omega arith in
       let sum : (q : ℕ) (a y : Float) → a ≡ everyFourth far q m → y ≡ far (i + q) → add binary64 a y ≡ everyFourth far q ((i + 4) / 4) = λ q a y g z. sum-more far q m (i + q) a y g z (omega arith) ∙ ap (everyFourth far q) next in
-      e
-      ∙ rw (
-        best,
-        sum 0 (w .sums .first) (f .first) (ap (λ (z : Watched). z .sums .first) h) (d .to-first ∙ ap far (sym (add-zero i))),
-        sum 1 (w .sums .second) (f .second) (ap (λ (z : Watched). z .sums .second) h) (d .to-second),
-        sum 2 (w .sums .third) (f .third) (ap (λ (z : Watched). z .sums .third) h) (d .to-third),
-        sum 3 (w .sums .fourth) (f .fourth) (ap (λ (z : Watched). z .sums .fourth) h) (d .to-fourth),
-      )
+      let number : (y : Float) (j : ℕ) → y ≡ far j → T (not (isNan (far j))) → T (not (isNan y)) = λ y j g. subst (λ (z : Float). T (not (isNan z))) (sym g) in
+      record {
+        best-is = λ fine.
+        four-more x book i k f (w .best) (r .best) d (h .best-is (λ j l. fine j (omega arith)))
+        (ap (λ (z : Watched). z .best) e ∙ in-order i f (w .best) (number (f .first) i (d .to-first) (fine i (omega arith))) (number (f .third) (i + 2) (d .to-third) (fine (i + 2) (omega arith))));
+        sums-are =
+        ap (λ (z : Watched). z .sums) e
+        ∙ rw (
+          sum 0 (w .sums .first) (f .first) (ap (λ (z : Four). z .first) (h .sums-are)) (d .to-first ∙ ap far (sym (add-zero i))),
+          sum 1 (w .sums .second) (f .second) (ap (λ (z : Four). z .second) (h .sums-are)) (d .to-second),
+          sum 2 (w .sums .third) (f .third) (ap (λ (z : Four). z .third) (h .sums-are)) (d .to-third),
+          sum 3 (w .sums .fourth) (f .fourth) (ap (λ (z : Four). z .fourth) (h .sums-are)) (d .to-fourth),
+        );
+      }
 
   -- a small sum of the sums shows that all of them are near
   pub fours-near : (n : ℕ) → n ≡ n / 4 * 4 → T (lt (sumOfDistances far (n / 4)) (power 250)) → AllNear k n book x

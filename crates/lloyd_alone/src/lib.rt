@@ -6,7 +6,7 @@ ghost use lib.ListN.{length};
 ghost use Rattle.error.specs.Numbers.{completed};
 ghost use Rattle.lloyd_search.specs.Distance.{vectorOf, rowOf};
 ghost use Rattle.lloyd_search.specs.Choice.{markOf};
-ghost use Rattle.lloyd_alone.specs.Watch.{watched, watching, Sees, Small};
+ghost use Rattle.lloyd_alone.specs.Watch.{joined, passingTwo, watching, Watches, Sees, Small};
 ghost use Rattle.lloyd_alone.specs.Answers.{nearestAlone, meanErrorAlone, nearestOf, codebookErrorOf};
 use error::Refusal;
 use error::names;
@@ -49,6 +49,42 @@ struct Watched {
     sums: Four,
 }
 
+// The choice of two, the second of which was made among later codewords.
+fn choose(before: Choice, later: Choice) -> Choice
+    ensures { λ r. ⌜ r ≡ joined before later ⌝ }
+{
+    let first = before.found;
+    let second = later.found;
+    let mut last = before.last;
+    if second.distance <= first.distance {
+        last = later.last;
+    }
+    if second.distance < first.distance {
+        Choice {
+            found: second,
+            last,
+        }
+    } else {
+        Choice { found: first, last }
+    }
+}
+
+// The choice after two more codewords, the first of which has this number. They are compared with each other first, so
+// that only one comparison waits for the choice before them; a NaN would show the difference.
+fn nearer_two(best: Choice, index: usize, first: f64, second: f64) -> Choice
+    requires { ⌜ index + 1 < 2 ^ 64 ⌝ }
+    ensures { λ r. ⌜ r ≡ passingTwo best index first second ⌝ }
+{
+    let one = Choice {
+        found: Found {
+            index,
+            distance: first,
+        },
+        last: index,
+    };
+    choose(best, lloyd_search::nearer(one, index + 1, second))
+}
+
 // Four codewords more, the first of which has this number.
 fn watch(before: Watched, index: usize, four: Four) -> Watched
     requires { ⌜ index + 3 < 2 ^ 64 ⌝ }
@@ -56,8 +92,9 @@ fn watch(before: Watched, index: usize, four: Four) -> Watched
 {
     let best = before.best;
     let sums = before.sums;
+    let two = nearer_two(best, index, four.first, four.second);
     Watched {
-        best: lloyd_search::nearer_four(best, index, four),
+        best: nearer_two(two, index + 2, four.third, four.fourth),
         sums: Four {
             first: sums.first + four.first,
             second: sums.second + four.second,
@@ -67,11 +104,11 @@ fn watch(before: Watched, index: usize, four: Four) -> Watched
     }
 }
 
-// The first `count` codewords, which are whole fours, in the order of lloyd_search's own search.
+// The first `count` codewords, which are whole fours. The next four are measured before those at hand are compared.
 fn watch_fours(codewords: &[f64], count: usize, block: &[f64]) -> Watched
     requires { ⌜ (count ≡ count / 4 * 4) × (count * length (now block) ≤ length (now codewords)) ⌝ }
-    ensures { λ r. ⌜ r ≡ watched (length (now (block .entry))) count
-        (rowOf (length (now (block .entry))) (now (codewords .entry))) (vectorOf (now (block .entry))) ⌝ }
+    ensures { λ r. ⌜ Watches (length (now (block .entry))) count
+        (rowOf (length (now (block .entry))) (now (codewords .entry))) (vectorOf (now (block .entry))) r ⌝ }
 {
     let mut before = Watched {
         best: Choice {

@@ -8,10 +8,10 @@ use mathlib.Core.Bool.{Bool, true, false, not, _&&_, _||_, cond}
 use lib.Dec.{T, T-not, not-T, eqb, eqb→eq}
 use lib.Ieee.{Float, lt, le, eq}
 use lib.Ieee.Fits.{and-i, and-l, and-r, eq→eqb}
-use Rattle.ieee.proofs.Order.{lt-irr, le-lt}
+use Rattle.ieee.proofs.Order.{lt-irr, le-lt, lt-le, eq-le}
 use Rattle.slices.specs.First.{someWhere}
 use Rattle.slices.proofs.FirstLaw.{below-suc}
-use Rattle.slices.proofs.CountLaw.{or-left, or-right, somewhere, nowhere-else, nothing-more}
+use Rattle.slices.proofs.CountLaw.{somewhere, nowhere-else, nothing-more}
 use Rattle.lloyd_search.specs.declared.Found.{Found}
 use Rattle.lloyd_search.specs.Nearest.{firstLeast, pick, another}
 use Rattle.lloyd_search.specs.Choice.{lastLeast, choice, markOf}
@@ -31,14 +31,6 @@ same true true f g = refl
 same true false f g = absurd (f tt)
 same false true f g = absurd (g tt tt)
 same false false f g = refl
-
-lt-le : (x y : Float) → T (lt x y) → T (le x y)
-unfolding le
-lt-le x y t = or-left (lt x y) (eq x y) t
-
-eq-le : (x y : Float) → T (eq x y) → T (le x y)
-unfolding le
-eq-le x y t = or-right (lt x y) (eq x y) t
 
 le-eq : (x y : Float) → T (le x y) → T (not (lt x y)) → T (eq x y)
 unfolding le

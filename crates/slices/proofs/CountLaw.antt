@@ -6,16 +6,9 @@ use native.Mathlib.Omega.{arith}
 use native.Mathlib.Numerals.{add-one}
 use mathlib.Core.Bool.{Bool, true, false, _||_, cond}
 use lib.Dec.{T}
+use Rattle.ieee.proofs.Order.{or-left, or-right}
 use Rattle.slices.specs.First.{someWhere, countWhere}
 use Rattle.slices.proofs.FirstLaw.{below-suc}
-
-pub or-left : (a b : Bool) → T a → T (a || b)
-or-left true b t = tt
-or-left false b t = absurd t
-
-pub or-right : (a b : Bool) → T b → T (a || b)
-or-right true b t = tt
-or-right false b t = t
 
 pub one-most : (b : Bool) → cond b 1 0 ≤ 1
 one-most true = le-refl 1

@@ -1,8 +1,8 @@
 -- `lloyd_alone::nearest_index` meets its contract: the checks in their order, and the search; small distances show what
 -- the checks of magnitude would. Assumes nothing.
-use mathlib.Core.Path.{_≡_, refl, sym, ap, _∙_}
+use mathlib.Core.Path.{_≡_, refl, sym, ap, _∙_, subst}
 use mathlib.Core.Bool.{Bool, true, false}
-use Prim.Native.Nat.{ℕ, _*_}
+use Prim.Native.Nat.{ℕ, _*_, _≤_}
 use lib.Dec.{eqb}
 use lib.ListN.{length}
 use lib.Ieee.{Float, ofBits}
@@ -17,10 +17,12 @@ use Rattle.lloyd_search.specs.Distance.{distance, vectorOf, rowOf}
 use Rattle.lloyd_search.specs.Nearest.{nearest}
 use Rattle.lloyd_search.specs.Choice.{chosen, markOf}
 use Rattle.lloyd_search.specs.Shape.{codebookShaped}
+use Rattle.lloyd_alone.specs.Watch.{NoNan}
 use Rattle.lloyd_alone.specs.Answers.{searchLimit, marked, nearestAlone}
 use Rattle.lloyd_search.proofs.ShapeLaw.{codebook-shape}
 use Rattle.lloyd_search.proofs.TieLaw.{mark-means}
 use Rattle.lloyd_alone.proofs.SmallLaw.{codewords-within}
+use Rattle.lloyd_alone.proofs.AnswersLaw.{no-nan}
 use Rattle.lloyd_alone.proofs.nearest_index.Statement.{statement}
 use Rattle.lloyd_alone.proofs.nearest_index.Tie as tie
 
@@ -55,18 +57,21 @@ codewords-shape c =
 search-near-requires : tie.Need-search-near-requires
 search-near-requires c κs = codewords-shape c
 
--- the answer, over rows of the block's length
+-- the answer, over rows of the block's length, where the checks of magnitude pass
 answer : (c : tie.Else2) (best : Choice) (r : Outcome Marked) →
     let a = c .before .before .before .before .before .args in
     let k = length (a .block .now) in
-    best ≡ chosen k (a .codebook-size) (rowOf k (a .codewords .now)) (vectorOf (a .block .now)) → r ≡ completed (record { found = best .found; tied = markOf best })
+    firstOutside searchLimit (a .block .now) ≡ Nowhere → firstOutside searchLimit (a .codewords .now) ≡ Nowhere
+    → (NoNan k (a .codebook-size) (rowOf k (a .codewords .now)) (vectorOf (a .block .now)) → best ≡ chosen k (a .codebook-size) (rowOf k (a .codewords .now)) (vectorOf (a .block .now)))
+    → r ≡ completed (record { found = best .found; tied = markOf best })
     → r ≡ completed (marked (a .block-dim) (a .codebook-size) (rowOf (a .block-dim) (a .codewords .now)) (vectorOf (a .block .now)))
-answer c best r e h =
+answer c best r p q e h =
     let a = c .before .before .before .before .before .args in
     let k = length (a .block .now) in
     let far : ℕ → Float = λ i. distance k (vectorOf (a .block .now)) (rowOf k (a .codewords .now) i) in
+    let few : k ≤ 256 = subst (λ (m : ℕ). m ≤ 256) (sym (c .if2 .left)) (codebook-shape (a .codebook-size) (a .block-dim) (length (a .codewords .now)) (shaped (c .before)) .coordinates-upto) in
     h
-    ∙ ap (λ (b : Choice). completed (record { found = b .found; tied = markOf b })) e
+    ∙ ap (λ (b : Choice). completed (record { found = b .found; tied = markOf b })) (e (no-nan (a .codebook-size) k (a .codewords .now) (a .block .now) few (codewords-shape c) refl p q))
     ∙ ap (λ (t : Bool). completed (record { found = nearest k (a .codebook-size) (rowOf k (a .codewords .now)) (vectorOf (a .block .now)); tied = t })) (mark-means far (a .codebook-size))
     ∙ ap (λ (m : ℕ). completed (marked m (a .codebook-size) (rowOf m (a .codewords .now)) (vectorOf (a .block .now)))) (c .if2 .left)
 
@@ -86,7 +91,7 @@ returns-3 c =
     let k = length (a .block .now) in
     let small = t .before .small-distances .ensures (t .if3 .taken) in
     let clean = codewords-within k (a .codebook-size) (a .codewords .now) (a .block .now) (codewords-shape h) refl (small .block-small) (s .search-near .ensures .where-near (small .all-near)) in
-    rw (shaped (h .before), long h, clean .0, clean .1) (answer h (s .search-near .result .best) _ (s .search-near .ensures .best-is) (c .with-mark .ensures))
+    rw (shaped (h .before), long h, clean .0, clean .1) (answer h (s .search-near .result .best) _ (clean .0) (clean .1) (s .search-near .ensures .best-is) (c .with-mark .ensures))
 
 first-outside-requires : tie.Need-first-outside-requires
 first-outside-requires c κs = search needs
@@ -135,7 +140,9 @@ returns-6 c =
     let f = g .before .before .before in
     let s = f .before .before .before .before in
     let h = s .before in
-    rw (shaped (h .before), long h, block-clean (g .before), ← g .first-outside2 .ensures, c .before .enum-told2 .given .1) (answer h (s .search-near .result .best) _ (s .search-near .ensures .best-is) (c .with-mark2 .ensures))
+    let block = block-clean (g .before) in
+    let codewords = sym (g .first-outside2 .ensures) ∙ c .before .enum-told2 .given .1 in
+    rw (shaped (h .before), long h, block, codewords) (answer h (s .search-near .result .best) _ block codewords (s .search-near .ensures .best-is) (c .with-mark2 .ensures))
 
 pub nearest-index-spec : {M : Type 1} → statement M
 nearest-index-spec =

@@ -1,6 +1,6 @@
 -- `lloyd_alone::search_near` meets its contract: from what the fours give, the best so far is the choice among the
--- codewords passed, and while `near` holds they are near. Assumes nothing.
-use mathlib.Core.Path.{_≡_, refl, sym, ap, _∙_, subst}
+-- codewords passed, unless a distance is a NaN, and while `near` holds they are near. Assumes nothing.
+use mathlib.Core.Path.{_≡_, refl, sym, _∙_, subst}
 use mathlib.Core.Bool.{true, true≢false}
 use mathlib.Core.Logic.{⊎-elim}
 use Prim.Native.Nat.{_≤_, _-_, _+_, _*_, _/_}
@@ -14,8 +14,8 @@ use borrow.Author.Tests.{not-false}
 use Rattle.ieee.proofs.Value.{holds-true}
 use Rattle.lloyd_search.specs.Distance.{distance, vectorOf, rowOf}
 use Rattle.lloyd_search.specs.Choice.{chosen}
-use Rattle.lloyd_alone.specs.declared.Watched.{Watched}
-use Rattle.lloyd_alone.specs.Watch.{AllNear}
+use Rattle.lloyd_search.specs.declared.Four.{Four}
+use Rattle.lloyd_alone.specs.Watch.{AllNear, NoNan}
 use Rattle.lloyd_search.proofs.LimitLaw.{power}
 use Rattle.lloyd_search.proofs.Parts.{row-fits, next-row, part-length, part-distance}
 use Rattle.lloyd_search.proofs.Fours.{fours-fit}
@@ -28,7 +28,7 @@ abbrev Inv-loop : tie.InvT-loop
 Inv-loop codewords n block k i₀ best₀ near₀ at₀ i best near at =
     (i ≤ n)
     × (at ≡ i * length block)
-    × (best ≡ chosen (length block) i (rowOf (length block) codewords) (vectorOf block))
+    × (NoNan (length block) i (rowOf (length block) codewords) (vectorOf block) → best ≡ chosen (length block) i (rowOf (length block) codewords) (vectorOf block))
     × (near ≡ true → AllNear (length block) i (rowOf (length block) codewords) (vectorOf block))
 
 abbrev μ-loop : tie.MeasureT-loop
@@ -49,8 +49,8 @@ mul-at c =
     record { fits = omega (arith, h .1, c .before .before .before .before .before .before .before .good .0 .0) }
 
 -- the sum of the sums is small
-abbrev small : Watched → Type 0
-small r = T (lt (add binary64 (add binary64 (r .sums .first) (r .sums .second)) (add binary64 (r .sums .third) (r .sums .fourth))) (power 250))
+abbrev small : Four → Type 0
+small s = T (lt (add binary64 (add binary64 (s .first) (s .second)) (add binary64 (s .third) (s .fourth))) (power 250))
 
 loop-holds : tie.Need-loop-holds Inv-loop μ-loop
 unfolding ofBits
@@ -60,8 +60,8 @@ loop-holds c =
     let k = length (a .block .now) in (
       div-mul-le-self (a .n) 4,
       refl,
-      ap (λ (r : Watched). r .best) (w .ensures),
-      λ h. fours-near k (rowOf k (a .codewords .now)) (vectorOf (a .block .now)) (a .n / 4 * 4) (omega arith) (subst small (w .ensures) (holds-true h)),
+      w .ensures .best-is,
+      λ h. fours-near k (rowOf k (a .codewords .now)) (vectorOf (a .block .now)) (a .n / 4 * 4) (omega arith) (subst small (w .ensures .sums-are) (holds-true h)),
     )
 
 inside : (c : tie.In-loop Inv-loop μ-loop) → c .before .loop .at + length (c .before .before .before .before .before .before .before .before .before .args .block .now) ≤ length (c .before .before .before .before .before .before .before .before .before .args .codewords .now)
@@ -115,7 +115,7 @@ loop-again c =
     λ h. ⊎-elim (λ w. absurd (true≢false (sym h ∙ w .1))) (λ w. (sym (w .1) ∙ h, not-false _ (w .0 .left))) (c .before .if1 .came) in (
       search needs,
       next-row (l .i) k (l .at) _ (l .inv .1) refl,
-      one-more (λ m. distance k x (rowOf k cw m)) (l .i) (l .i + 1) (l .best) (c .nearer .result) y refl (l .inv .2) far (c .nearer .ensures),
+      λ fine. one-more (λ m. distance k x (rowOf k cw m)) (l .i) (l .i + 1) (l .best) (c .nearer .result) y refl (l .inv .2 (λ m h. fine m (omega arith))) far (c .nearer .ensures),
       λ h. one-near k (rowOf k cw) x (l .i) y (l .inv .3 (near h .0)) far (holds-true (near h .1)),
     )
 

@@ -1,6 +1,6 @@
 -- `lloyd_alone::watch_fours` meets its contract: before a turn the codewords before
 -- the i-th are passed, and the distances of the next four are known. Assumes nothing.
-use mathlib.Core.Path.{_≡_, refl, ap, _∙_}
+use mathlib.Core.Path.{_≡_, refl, subst}
 use Prim.Native.Nat.{ℕ, _≤_, _-_, _+_, _*_, _/_}
 use native.Mathlib.Nat.{le-trans, mul-le-mul-right}
 use native.Mathlib.Omega.{arith}
@@ -16,20 +16,20 @@ use Rattle.lloyd_search.specs.Nearest.{firstLeast}
 use Rattle.lloyd_search.specs.Choice.{lastLeast}
 use Rattle.lloyd_search.specs.Four.{Distances}
 use Rattle.lloyd_search.proofs.Fours.{some-four, two-fours}
-use Rattle.lloyd_alone.specs.Watch.{watched}
+use Rattle.lloyd_alone.specs.Watch.{Watches}
 use Rattle.lloyd_alone.proofs.WatchLaw.{four-watched}
 use Rattle.lloyd_alone.proofs.watch_fours.Statement.{statement}
 use Rattle.lloyd_alone.proofs.watch_fours.Tie as tie
 
 -- what is kept of the first n codewords
-abbrev passed : List Float → List Float → ℕ → Watched
-passed codewords block n = watched (length block) n (rowOf (length block) codewords) (vectorOf block)
+abbrev Passed : List Float → List Float → ℕ → Watched → Type 0
+Passed codewords block n = Watches (length block) n (rowOf (length block) codewords) (vectorOf block)
 
 abbrev Inv-loop : tie.InvT-loop
 Inv-loop codewords count block before₀ four₀ i₀ before four i =
     (i + 4 ≤ count)
     × (i ≡ i / 4 * 4)
-    × (before ≡ passed codewords block i)
+    × Passed codewords block i before
     × Distances (length block) (vectorOf block) (rowOf (length block) codewords i) (rowOf (length block) codewords (i + 1)) (rowOf (length block) codewords (i + 2)) (rowOf (length block) codewords (i + 3)) four
 
 abbrev μ-loop : tie.MeasureT-loop
@@ -41,7 +41,7 @@ float-from-bits-t8 c = tt
 
 returns : tie.Need-returns Inv-loop μ-loop
 unfolding ofBits firstLeast lastLeast sumTo
-returns c = rw (c .if1 .taken) refl
+returns c = record { best-is = λ fine. rw (c .if1 .taken) refl; sums-are = rw (c .if1 .taken) refl }
 
 distances-from-requires : tie.Need-distances-from-requires Inv-loop μ-loop
 distances-from-requires c κs =
@@ -52,7 +52,7 @@ loop-holds : tie.Need-loop-holds Inv-loop μ-loop
 unfolding ofBits firstLeast lastLeast sumTo
 loop-holds c =
     let s = c .before .before .before .before in
-    (some-four (s .args .count) (s .pre .0) (c .before .if1 .left), refl, refl, c .distances-from .ensures)
+    (some-four (s .args .count) (s .pre .0) (c .before .if1 .left), refl, record { best-is = λ fine. refl; sums-are = refl }, c .distances-from .ensures)
 
 add-loop : tie.Need-add-loop Inv-loop μ-loop
 add-loop c = record { fits = omega (arith, c .loop .inv .0, c .before .before .before .before .before .fits .count .fits) }
@@ -96,7 +96,8 @@ returns-2 c =
     let a = s .args in
     let k = length (a .block .now) in
     let e : l .i + 4 ≡ a .count = omega (arith, l .inv .0, c .before .loop-test .left) in
-    four-watched k (rowOf k (a .codewords .now)) (vectorOf (a .block .now)) (l .i) (l .four) (l .before) (c .watch2 .result) (l .inv .1) (l .inv .3) (l .inv .2) (c .watch2 .ensures) ∙ ap (passed (a .codewords .now) (a .block .now)) e
+    subst (λ (n : ℕ). Passed (a .codewords .now) (a .block .now) n (c .watch2 .result)) e
+    (four-watched k (rowOf k (a .codewords .now)) (vectorOf (a .block .now)) (l .i) (l .four) (l .before) (c .watch2 .result) (l .inv .1) (l .inv .3) (l .inv .2) (c .watch2 .ensures))
 
 pub watch-fours-spec : {M : Type 1} → statement M
 watch-fours-spec =
