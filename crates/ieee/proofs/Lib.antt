@@ -4,3 +4,4 @@ pub mod Whole
 pub mod Bound
 pub mod Sign
 pub mod Finite
+pub mod Square

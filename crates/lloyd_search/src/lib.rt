@@ -45,8 +45,9 @@ pub struct Four {
     pub fourth: f64,
 }
 
-// Public only for the crates above: the squared distances of a block
-// and four codewords: four sums side by side, each in its own order.
+// Public only for the crates above: the squared distances of a block and four codewords: four sums side by side, each in
+// its own order. The codewords' values are not needed again, so x is taken from them, which spares a copy of x; the
+// square is the same.
 pub fn four_distances(block: &[f64], a: &[f64], b: &[f64], c: &[f64], d: &[f64]) -> Four
     requires { ⌜ (length (now a) ≡ length (now block)) × (length (now b) ≡ length (now block))
         × (length (now c) ≡ length (now block)) × (length (now d) ≡ length (now block)) ⌝ }
@@ -60,10 +61,10 @@ pub fn four_distances(block: &[f64], a: &[f64], b: &[f64], c: &[f64], d: &[f64])
     let mut j = 0usize;
     while j < block.len() {
         let x = block[j];
-        let e = x - a[j];
-        let f = x - b[j];
-        let g = x - c[j];
-        let h = x - d[j];
+        let e = a[j] - x;
+        let f = b[j] - x;
+        let g = c[j] - x;
+        let h = d[j] - x;
         first = first + e * e;
         second = second + f * f;
         third = third + g * g;

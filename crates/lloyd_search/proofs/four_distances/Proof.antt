@@ -1,12 +1,15 @@
--- `lloyd_search::four_distances` meets its contract: each sum is that of the coordinates passed. Assumes nothing.
+-- `lloyd_search::four_distances` meets its contract: each sum is that of the coordinates passed, and the square of a
+-- difference is the same whichever is taken from the other. Assumes nothing.
 use mathlib.Core.Path.{_≡_, refl}
 use Prim.Native.Nat.{_≤_, _-_}
 use native.Mathlib.Omega.{arith}
 use native.Mathlib.Numerals.{add-one}
+use mathlib.Core.List.{List}
 use lib.ListN.{length}
-use lib.Ieee.{ofBits}
+use lib.Ieee.{Float, binary64, ofBits}
 use borrow.Author.Needs.{needs}
-use Rattle.ieee.specs.Sum.{sumTo}
+use Rattle.ieee.specs.Sum.{sumTo, squaredDifference}
+use Rattle.ieee.proofs.Square.{square-turned}
 use Rattle.lloyd_search.specs.Distance.{distance, vectorOf}
 use Rattle.lloyd_search.proofs.four_distances.Statement.{statement}
 use Rattle.lloyd_search.proofs.four_distances.Tie as tie
@@ -65,8 +68,16 @@ loop-less c = search needs
 loop-again : tie.Need-loop-again Inv-loop μ-loop
 unfolding sumTo
 loop-again c =
-    let v = c .before .before .before .before .before .before .loop .inv in
-    (search needs, rw (add-one, v .1), rw (add-one, v .2), rw (add-one, v .3), rw (add-one, v .4))
+    let l = c .before .before .before .before .before .before .loop in
+    let g = c .before .before .before .before .before .before .before .args in
+    let x = vectorOf (g .block .now) (l .j) in
+    let turned : (xs : List Float) → squaredDifference (vectorOf xs (l .j)) x ≡ squaredDifference x (vectorOf xs (l .j)) = λ xs. square-turned binary64 (vectorOf xs (l .j)) x in (
+      search needs,
+      rw (add-one, l .inv .1, turned (g .a .now)),
+      rw (add-one, l .inv .2, turned (g .b .now)),
+      rw (add-one, l .inv .3, turned (g .c .now)),
+      rw (add-one, l .inv .4, turned (g .d .now)),
+    )
 
 returns : tie.Need-returns Inv-loop μ-loop
 returns c =
