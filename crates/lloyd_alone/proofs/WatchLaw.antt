@@ -17,10 +17,11 @@ use Rattle.lloyd_search.specs.declared.Choice.{Choice}
 use Rattle.lloyd_search.specs.declared.Four.{Four}
 use Rattle.lloyd_alone.specs.declared.Watched.{Watched}
 use Rattle.lloyd_search.specs.Distance.{distance}
-use Rattle.lloyd_search.specs.Choice.{passing, passingFour}
+use Rattle.lloyd_search.specs.Nearest.{firstLeast}
+use Rattle.lloyd_search.specs.Choice.{lastLeast, passing, passingFour}
 use Rattle.lloyd_search.specs.Four.{Distances}
 use Rattle.lloyd_alone.specs.Totals.{everyFourth, sumOfDistances}
-use Rattle.lloyd_alone.specs.Watch.{AllNear, Watches, watching, passingTwo}
+use Rattle.lloyd_alone.specs.Watch.{AllNear, Watches, unwatched, watching, passingTwo}
 use Rattle.lloyd_search.proofs.LimitLaw.{power}
 use Rattle.lloyd_search.proofs.Fours.{four-more}
 use Rattle.lloyd_search.proofs.FiniteLaw.{sumTo-fits, distance-fits}
@@ -85,6 +86,10 @@ module _ (k : ℕ) (book : ℕ → ℕ → Float) (x : ℕ → Float) where
   fit : (i : ℕ) → T (fits binary64 (far i))
   fit i = holds-true (distance-fits k x (book i))
 
+  pub none-watched : Watches k 0 book x unwatched
+  unfolding firstLeast lastLeast sumTo
+  none-watched = record { best-is = λ fine. refl; sums-are = refl }
+
   -- four more codewords in pairs are four more in order
   in-order : (i : ℕ) (f : Four) (best : Choice) → T (not (isNan (f .first))) → T (not (isNan (f .third))) → passingTwo (passingTwo best i (f .first) (f .second)) (i + 2) (f .third) (f .fourth) ≡ passingFour best i f
   in-order i f best one three =
@@ -103,16 +108,16 @@ module _ (k : ℕ) (book : ℕ → ℕ → Float) (x : ℕ → Float) where
       let number : (y : Float) (j : ℕ) → y ≡ far j → T (not (isNan (far j))) → T (not (isNan y)) = λ y j g. subst (λ (z : Float). T (not (isNan z))) (sym g) in
       record {
         best-is = λ fine.
-        four-more x book i k f (w .best) (r .best) d (h .best-is (λ j l. fine j (omega arith)))
-        (ap (λ (z : Watched). z .best) e ∙ in-order i f (w .best) (number (f .first) i (d .to-first) (fine i (omega arith))) (number (f .third) (i + 2) (d .to-third) (fine (i + 2) (omega arith))));
+            four-more x book i k f (w .best) (r .best) d (h .best-is (λ j l. fine j (omega arith)))
+            (ap (λ (z : Watched). z .best) e ∙ in-order i f (w .best) (number (f .first) i (d .to-first) (fine i (omega arith))) (number (f .third) (i + 2) (d .to-third) (fine (i + 2) (omega arith))));
         sums-are =
-        ap (λ (z : Watched). z .sums) e
-        ∙ rw (
-          sum 0 (w .sums .first) (f .first) (ap (λ (z : Four). z .first) (h .sums-are)) (d .to-first ∙ ap far (sym (add-zero i))),
-          sum 1 (w .sums .second) (f .second) (ap (λ (z : Four). z .second) (h .sums-are)) (d .to-second),
-          sum 2 (w .sums .third) (f .third) (ap (λ (z : Four). z .third) (h .sums-are)) (d .to-third),
-          sum 3 (w .sums .fourth) (f .fourth) (ap (λ (z : Four). z .fourth) (h .sums-are)) (d .to-fourth),
-        );
+            ap (λ (z : Watched). z .sums) e
+            ∙ rw (
+              sum 0 (w .sums .first) (f .first) (ap (λ (z : Four). z .first) (h .sums-are)) (d .to-first ∙ ap far (sym (add-zero i))),
+              sum 1 (w .sums .second) (f .second) (ap (λ (z : Four). z .second) (h .sums-are)) (d .to-second),
+              sum 2 (w .sums .third) (f .third) (ap (λ (z : Four). z .third) (h .sums-are)) (d .to-third),
+              sum 3 (w .sums .fourth) (f .fourth) (ap (λ (z : Four). z .fourth) (h .sums-are)) (d .to-fourth),
+            );
       }
 
   -- a small sum of the sums shows that all of them are near

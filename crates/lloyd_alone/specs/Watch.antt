@@ -5,8 +5,9 @@ use mathlib.Core.Bool.{true, false, not, cond}
 use mathlib.Core.List.{List}
 use lib.IntN.{pos}
 use lib.Dec.{T}
-use lib.Ieee.{Float, fin, binary64, add, lt, le, isNan}
+use lib.Ieee.{Float, inf, fin, binary64, add, lt, le, isNan}
 use Rattle.ieee.specs.Bounds.{Upto}
+use Rattle.ieee.specs.Sum.{plusZero}
 use Rattle.slices.specs.declared.First.the-variants.{Nowhere}
 use Rattle.slices.specs.Limit.{firstOutside}
 use Rattle.lloyd_search.specs.declared.Choice.{Choice}
@@ -29,6 +30,13 @@ AllNear k n book x = (i : ℕ) → i < n → Upto (distance k x (book i)) (2 ^ 2
 -- no distance of x to n codewords is a NaN
 abbrev pub NoNan : ℕ → ℕ → (ℕ → ℕ → Float) → (ℕ → Float) → Type 0
 NoNan k n book x = (i : ℕ) → i < n → T (not (isNan (distance k x (book i))))
+
+-- what a search keeps before any codeword is passed
+abbrev pub unwatched : Watched
+unwatched = record {
+  best = record { found = record { index = 0; distance = inf false }; last = 0 };
+  sums = record { first = plusZero; second = plusZero; third = plusZero; fourth = plusZero };
+}
 
 -- the choice of two, the second of which was made among later codewords
 abbrev pub joined : Choice → Choice → Choice

@@ -4,9 +4,10 @@ ghost use Prim.Native.Nat.{_<_, _≤_, _+_, _*_, _/_, _^_};
 ghost use mathlib.Core.Bool.{true};
 ghost use lib.ListN.{length};
 ghost use Rattle.error.specs.Numbers.{completed};
-ghost use Rattle.lloyd_search.specs.Distance.{vectorOf, rowOf};
+ghost use Rattle.lloyd_search.specs.Distance.{distance, vectorOf, rowOf};
 ghost use Rattle.lloyd_search.specs.Choice.{markOf};
-ghost use Rattle.lloyd_alone.specs.Watch.{joined, passingTwo, watching, Watches, Sees, Small};
+ghost use Rattle.lloyd_search.specs.Four.{Distances};
+ghost use Rattle.lloyd_alone.specs.Watch.{unwatched, joined, passingTwo, watching, Watches, Sees, Small};
 ghost use Rattle.lloyd_alone.specs.Answers.{nearestAlone, meanErrorAlone, nearestOf, codebookErrorOf};
 use error::Refusal;
 use error::names;
@@ -47,6 +48,25 @@ const SMALL_LIMIT: f64 = 170141183460469231731687303715884105728.0;
 struct Watched {
     best: Choice,
     sums: Four,
+}
+
+// Before any codeword is passed.
+fn nothing_watched() -> Watched
+    ensures { λ r. ⌜ r ≡ unwatched ⌝ }
+{
+    let found = Found {
+        index: 0,
+        distance: f64::from_bits(ieee::INFINITY),
+    };
+    Watched {
+        best: Choice { found, last: 0 },
+        sums: Four {
+            first: 0.0,
+            second: 0.0,
+            third: 0.0,
+            fourth: 0.0,
+        },
+    }
 }
 
 // The choice of two, the second of which was made among later codewords.
@@ -105,26 +125,12 @@ fn watch(before: Watched, index: usize, four: Four) -> Watched
 }
 
 // The first `count` codewords, which are whole fours. The next four are measured before those at hand are compared.
-fn watch_fours(codewords: &[f64], count: usize, block: &[f64]) -> Watched
+fn watch_rows(codewords: &[f64], count: usize, block: &[f64]) -> Watched
     requires { ⌜ (count ≡ count / 4 * 4) × (count * length (now block) ≤ length (now codewords)) ⌝ }
     ensures { λ r. ⌜ Watches (length (now (block .entry))) count
         (rowOf (length (now (block .entry))) (now (codewords .entry))) (vectorOf (now (block .entry))) r ⌝ }
 {
-    let mut before = Watched {
-        best: Choice {
-            found: Found {
-                index: 0,
-                distance: f64::from_bits(ieee::INFINITY),
-            },
-            last: 0,
-        },
-        sums: Four {
-            first: 0.0,
-            second: 0.0,
-            third: 0.0,
-            fourth: 0.0,
-        },
-    };
+    let mut before = nothing_watched();
     if count == 0 {
         return before;
     }
@@ -137,6 +143,65 @@ fn watch_fours(codewords: &[f64], count: usize, block: &[f64]) -> Watched
         i += 4usize;
     }
     watch(before, i, four)
+}
+
+// The squared distance of a block of four values to the codeword of this number: the sum without its loop.
+fn quad_distance(codewords: &[f64], index: usize, block: &[f64]) -> f64
+    requires { ⌜ (length (now block) ≡ 4) × ((index + 1) * 4 ≤ length (now codewords)) ⌝ }
+    ensures { λ r. ⌜ r ≡ distance 4 (vectorOf (now (block .entry))) (rowOf 4 (now (codewords .entry)) index) ⌝ }
+{
+    let at = index * 4;
+    let e = codewords[at] - block[0];
+    let f = codewords[at + 1] - block[1];
+    let g = codewords[at + 2] - block[2];
+    let h = codewords[at + 3] - block[3];
+    (((0.0 + e * e) + f * f) + g * g) + h * h
+}
+
+// The squared distances of a block of four values to four codewords, the first of which has this number.
+fn quad_distances(codewords: &[f64], index: usize, block: &[f64]) -> Four
+    requires { ⌜ (length (now block) ≡ 4) × ((index + 4) * 4 ≤ length (now codewords)) ⌝ }
+    ensures { λ r. ⌜ (let row = rowOf 4 (now (codewords .entry)) in Distances 4 (vectorOf (now (block .entry)))
+        (row index) (row (index + 1)) (row (index + 2)) (row (index + 3)) r) ⌝ }
+{
+    let first = quad_distance(codewords, index, block);
+    let second = quad_distance(codewords, index + 1, block);
+    let third = quad_distance(codewords, index + 2, block);
+    let fourth = quad_distance(codewords, index + 3, block);
+    Four {
+        first,
+        second,
+        third,
+        fourth,
+    }
+}
+
+// The same for a block of four values, which stay at hand from the first codeword to the last.
+fn watch_quads(codewords: &[f64], count: usize, block: &[f64]) -> Watched
+    requires { ⌜ (length (now block) ≡ 4) × (count ≡ count / 4 * 4) × (count * 4 ≤ length (now codewords)) ⌝ }
+    ensures { λ r. ⌜ Watches 4 count (rowOf 4 (now (codewords .entry))) (vectorOf (now (block .entry))) r ⌝ }
+{
+    let mut before = nothing_watched();
+    let mut i = 0usize;
+    while i < count {
+        let four = quad_distances(codewords, i, block);
+        before = watch(before, i, four);
+        i += 4usize;
+    }
+    before
+}
+
+// The first `count` codewords, which are whole fours.
+fn watch_fours(codewords: &[f64], count: usize, block: &[f64]) -> Watched
+    requires { ⌜ (count ≡ count / 4 * 4) × (count * length (now block) ≤ length (now codewords)) ⌝ }
+    ensures { λ r. ⌜ Watches (length (now (block .entry))) count
+        (rowOf (length (now (block .entry))) (now (codewords .entry))) (vectorOf (now (block .entry))) r ⌝ }
+{
+    if block.len() == 4 {
+        watch_quads(codewords, count, block)
+    } else {
+        watch_rows(codewords, count, block)
+    }
 }
 
 // What a search has seen: its choice, and whether every distance is known to be near, which is at most NEAR_LIMIT.
