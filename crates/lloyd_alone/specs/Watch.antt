@@ -1,4 +1,5 @@
--- What the search called alone reads off its distances: whether they are at most 2 ^ 250. Definitions only.
+-- The search called alone: what it keeps of the codewords that it has passed, two of which it compares with each other
+-- first, and what it reads off its distances: whether they are at most 2 ^ 250. Definitions only.
 use mathlib.Core.Path.{_≡_}
 use Prim.Native.Nat.{ℕ, _+_, _/_, _^_, _<_}
 use mathlib.Core.Bool.{true, false, not, cond}

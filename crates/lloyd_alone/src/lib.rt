@@ -90,7 +90,7 @@ fn choose(before: Choice, later: Choice) -> Choice
 }
 
 // The choice after two more codewords, the first of which has this number. They are compared with each other first, so
-// that only one comparison waits for the choice before them; a NaN would show the difference.
+// that less waits for the choice before them; only a NaN would show the difference.
 fn nearer_two(best: Choice, index: usize, first: f64, second: f64) -> Choice
     requires { ⌜ index + 1 < 2 ^ 64 ⌝ }
     ensures { λ r. ⌜ r ≡ passingTwo best index first second ⌝ }
@@ -176,7 +176,7 @@ fn quad_distances(codewords: &[f64], index: usize, block: &[f64]) -> Four
     }
 }
 
-// The same for a block of four values, which stay at hand from the first codeword to the last.
+// `watch_rows` for a block of four values, which stay at hand from the first codeword to the last.
 fn watch_quads(codewords: &[f64], count: usize, block: &[f64]) -> Watched
     requires { ⌜ (length (now block) ≡ 4) × (count ≡ count / 4 * 4) × (count * 4 ≤ length (now codewords)) ⌝ }
     ensures { λ r. ⌜ Watches 4 count (rowOf 4 (now (codewords .entry))) (vectorOf (now (block .entry))) r ⌝ }

@@ -91,6 +91,7 @@ module _ (b : ℕ) (small : b ≤ 480) where
       pub finite-distance : FiniteDistance k x y
       finite-distance = record {
         differences = λ j l. upto-finite (sub binary64 (x j) (y j)) (2 ^ (b + 1)) (difference-upto (x j) (y j) (h j l) (g j l));
+        turned = λ j l. upto-finite (sub binary64 (y j) (x j)) (2 ^ (b + 1)) (difference-upto (y j) (x j) (g j l) (h j l));
         squares = λ j l. upto-finite (squaredDifference (x j) (y j)) (2 ^ (2 * b + 2)) (square-upto (x j) (y j) (h j l) (g j l));
         partial-sums = λ m l. upto-finite (distance m x y) (m * 2 ^ (2 * b + 2)) (distance-upto m l);
       }

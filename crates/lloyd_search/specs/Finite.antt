@@ -9,9 +9,11 @@ use Rattle.ieee.specs.Sum.{sumTo, squaredDifference}
 use Rattle.lloyd_search.specs.Distance.{distance}
 use Rattle.lloyd_search.specs.Nearest.{nearest, meanError}
 
--- each difference, each square, and each partial sum of the squares (of the first m), the whole sum among them
+-- each difference, either way round, each square, and each partial sum of the squares (of the first m), the whole sum
+-- among them
 pub record FiniteDistance (k : ℕ) (x y : ℕ → Float) : Type 0 where
   pub differences : (j : ℕ) → j < k → T (finite (sub binary64 (x j) (y j)))
+  pub turned : (j : ℕ) → j < k → T (finite (sub binary64 (y j) (x j)))
   pub squares : (j : ℕ) → j < k → T (finite (squaredDifference (x j) (y j)))
   pub partial-sums : (m : ℕ) → m ≤ k → T (finite (distance m x y))
 
