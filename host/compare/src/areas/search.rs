@@ -96,7 +96,7 @@ fn wrong_shapes(run: &mut Run) -> Outcome {
 
 /// NaN, infinities and values just above the limit, anywhere; two of them show the order.
 fn wrong_values(run: &mut Run) -> Outcome {
-    for (n, k, count) in [(1, 1, 1), (2, 1, 3), (3, 2, 2)] {
+    for (n, k, count) in [(1, 1, 1), (2, 1, 3), (3, 2, 2), (5, 4, 1)] {
         for edge in edges(LIMIT) {
             for place in 0..n * k + count * k {
                 let mut both = values(&mut run.random, n * k + count * k, 4.0);
@@ -124,7 +124,7 @@ fn far(run: &mut Run) -> Outcome {
     all.extend(edges(LIMIT));
     all.extend([1e200, -1e200, f64::MAX]);
     for _ in 0..run.rounds(10_000) {
-        let (n, k) = (1 + run.random.index(9), 1 + run.random.index(3));
+        let (n, k) = (1 + run.random.index(9), 1 + run.random.index(5));
         // All but two of the values are within.
         let mut both: Vec<f64> = (0..(n + 1) * k).map(|_| run.random.pick(&all[..within])).collect();
         for _ in 0..2 {
@@ -158,11 +158,11 @@ fn largest(run: &mut Run) -> Outcome {
 /// Up to nine codewords, each 1, 2 or -2, in every order around 0: ties of the nearest and of others, side by side and
 /// apart, in the fours and after them, undone by one that is nearer or not. The values stand at different coordinates.
 fn ties(run: &mut Run) -> Outcome {
-    for (n, k) in (1..=9).flat_map(|n| (1..=3).map(move |k| (n, k))) {
+    for (n, k) in (1..=9).flat_map(|n| (1..=4).map(move |k| (n, k))) {
         for values in grid(&[1.0, 2.0, -2.0], n) {
             let mut codewords = vec![0.0; n * k];
             values.iter().enumerate().for_each(|(m, value)| codewords[m * k + m % k] = *value);
-            nearest(run, &codewords, n as u64, k as u64, &[0.0; 3][..k])?;
+            nearest(run, &codewords, n as u64, k as u64, &[0.0; 4][..k])?;
         }
     }
     Ok(())
@@ -211,11 +211,12 @@ struct Units<'a> {
 }
 
 /// Two exact distances that differ and become the same.
-const BECOME_TIED: [Units; 9] = [
+const BECOME_TIED: [Units; 10] = [
     // The smaller square is lost in the sum, before the larger or after it.
     Units { scale: 0, block: &[0, 0], one: &[1 << 53, 1], other: &[1 << 53, 2] },
     Units { scale: -53, block: &[0, 0], one: &[-3, 1 << 53], other: &[0, 1 << 53] },
     Units { scale: 20, block: &[1, 1, 1], one: &[5, 1, 1 << 60], other: &[4, -3, 1 << 60] },
+    Units { scale: 7, block: &[0; 4], one: &[2, 1 << 60, 3, 1], other: &[1, 1 << 60, 1, 0] },
     // The square is rounded, and with it what was added to it.
     Units { scale: -60, block: &[0, 0], one: &[(1 << 53) - 1, 7], other: &[1 - (1 << 53), 1 << 20] },
     // The difference is rounded.
