@@ -6,9 +6,7 @@ use crate::measure::{measure, median, time, Side};
 use crate::{training, Bench};
 
 pub fn tables(bench: &mut Bench) {
-    println!(
-        "Each row doubles one number and leaves the others. A factor is that side's time beside the row above.\n"
-    );
+    println!("Each row doubles one number and leaves the others. A factor is that side's time beside the row above.\n");
     println!("| What | Shape | Proved | Factor | Rust | Factor | Ratio |\n|---|---|---|---|---|---|---|");
     let refined = |step: &dyn Fn(usize) -> Shape, bench: &mut Bench| {
         let mut before = None;
