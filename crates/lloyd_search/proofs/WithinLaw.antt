@@ -3,18 +3,19 @@
 use mathlib.Core.Path.{_≡_, sym, ap, subst}
 use Prim.Native.Nat.{ℕ, _*_, _^_, _≤_, _<_}
 use native.Mathlib.Nat.{not-le-of-lt, one-mul}
-use mathlib.Core.Bool.{Bool, true, false, not, _||_}
+use mathlib.Core.Bool.{Bool, true, false, not}
+use mathlib.Core.Logic.{inl, inr}
 use mathlib.Core.List.{List}
-use lib.Dec.{T, ltb, not-T, ltb→lt}
+use lib.Dec.{T, T-not, ltb, not-T, ltb→lt}
 use lib.IntN.{ℤ}
 use lib.Pow.{pow-mono}
 use lib.ListN.{length, getD}
-use lib.Ieee.{Float, nan, inf, fin, up, down, lt, eq, le, neg}
+use lib.Ieee.{Float, nan, inf, fin, up, down, lt, le, neg}
 use lib.Ieee.Bits.{is-true}
 use lib.Ieee.Fits.{and-i}
 use lib.Ieee.Scale.{finite}
 use Rattle.ieee.specs.Bounds.{Upto}
-use Rattle.ieee.proofs.Order.{eq-of-neither}
+use Rattle.ieee.proofs.Order.{finite-number, le-or-lt}
 use Rattle.ieee.proofs.Bound.{upto-mono}
 use Rattle.slices.specs.declared.First.the-variants.{Nowhere}
 use Rattle.slices.specs.Limit.{within, firstOutside}
@@ -23,12 +24,7 @@ use Rattle.lloyd_search.proofs.LimitLaw.{power, all-within}
 
 -- x ≤ y, where y < x is not
 not-lt-le : (x y : Float) → T (finite x) → T (finite y) → T (not (lt y x)) → T (le x y)
-unfolding le
-not-lt-le x y f g h = go (lt x y) (λ k. eq-of-neither x y f g k h)
-  where
-    go : (b : Bool) → (T (not b) → T (eq x y)) → T (b || eq x y)
-    go true k = tt
-    go false k = k tt
+not-lt-le x y f g h = elim (le-or-lt x y (finite-number x f) (finite-number y g)) [ inl l ↦ l | inr l ↦ absurd (T-not (lt y x) h l) ]
 
 -- a value of at most 2 ^ b in size is neither below -2 ^ b nor above 2 ^ b
 module _ (b m : ℕ) (e : ℤ) (h : Upto (fin false m e) (2 ^ b)) where
