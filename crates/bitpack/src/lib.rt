@@ -1,4 +1,6 @@
 // Indices of a fixed width packed into bytes, low bit first, and read back.
+#![tactic(auto)]
+
 ghost use Rattle.std.specs.Prelude.{◌≡◌, List, ℕ, ◌+◌, ◌*◌, ◌-◌, ◌^◌, ◌≤◌, ◌<◌, length, get_or};
 ghost use Rattle.error.specs.Numbers.{checked, if_completed};
 ghost use Rattle.slices.specs.Lists.{filled};

@@ -1,4 +1,6 @@
 // The codewords of codebook.rs: one of them, widened, and the checks of their number and of their values.
+#![tactic(auto)]
+
 ghost use Rattle.std.specs.Prelude.{◌≡◌, ◌+◌, ◌≤◌, length, get_or};
 ghost use Rattle.std.specs.Float.{nan};
 ghost use Rattle.error.specs.Numbers.{checked, if_completed};

@@ -1,4 +1,6 @@
 // The compact frame: its bytes written into a lent buffer, and parsed where they lie. specs/Frame.antt has the layout.
+#![tactic(auto)]
+
 ghost use Rattle.std.specs.Prelude.{◌≡◌, ◌++◌, ◌+◌, ◌*◌, ◌≤◌, ◌<◌, length, take, drop};
 ghost use Rattle.error.specs.Numbers.{checked, if_completed};
 ghost use Rattle.bitpack.specs.Layout.{bytes_for};

@@ -1,5 +1,7 @@
 // Decoding of a compact frame: module codec.rs of fib-quant, from_compact_bytes and decode, without digests.
 // specs/Decode.antt has the order of the checks, their numbers and values, and what the bytes stand for.
+#![tactic(auto)]
+
 ghost use Rattle.std.specs.Prelude.{◌≡◌, ℕ, ◌+◌, ◌*◌, ◌≤◌, ◌<◌, not, length, get_or, replicate};
 ghost use Rattle.std.specs.Float.{nan, binary32, binary64};
 ghost use Rattle.std.specs.Float.Ieee.{mul};

@@ -1,6 +1,8 @@
 // Encodes a vector into a compact frame: the checks, its norm, and the frame. From codec.rs of fib-quant, without
 // digests. specs/Encode.antt has the order of the checks, their numbers and values, and the frame that is written.
 // The entry point is `encode`, at the end.
+#![tactic(auto)]
+
 ghost use Rattle.std.specs.Prelude.{◌≡◌, cond, ◌++◌, ◌+◌, ◌*◌, ◌/◌, ◌≤◌, ◌<◌, length, get_or, drop, replicate};
 ghost use Rattle.std.specs.Float.{nan, binary32};
 ghost use Rattle.error.specs.Numbers.{checked, if_completed, contents};

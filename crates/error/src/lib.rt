@@ -1,6 +1,7 @@
 // What every entry point answers with: the refusals of the fib-quant port, a case for each
 // row of the table of numbers, and one more for a rate. specs/Numbers.antt sets out the
 // number and the values of each case; every contract above that can refuse speaks through it.
+#![tactic(auto)]
 
 pub mod names;
 

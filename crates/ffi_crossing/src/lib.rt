@@ -1,5 +1,7 @@
 // How answers cross: a number is returned, and values are written to room that the host lends, all of it in every case.
 // specs/Crossing.antt says what stands where. The functions are public only for the crates of the exports.
+#![tactic(auto)]
+
 ghost use Rattle.std.specs.Prelude.{◌≡◌, [], ◌∷◌};
 ghost use Rattle.error.specs.Numbers.{refusal, checked};
 ghost use Rattle.ffi_crossing.specs.Crossing.{found, row_found, crossed, none};

@@ -1,5 +1,7 @@
 // A profile as a host hands it in and gets it back: numbers, with its choices by their numbers.
 // The functions are public only for the crates of the exports.
+#![tactic(auto)]
+
 pub mod choices;
 
 ghost use Rattle.std.specs.Prelude.{◌≡◌};

@@ -1,4 +1,6 @@
 // Training for the host. An event passes as C lays it out, a slice of events as a pointer and how many they are.
+#![tactic(auto)]
+
 ghost use Rattle.std.specs.Prelude.{◌≡◌, length};
 ghost use Rattle.error.specs.Numbers.{completed, and_then};
 ghost use Rattle.ieee.specs.Sum.{plus_zero};

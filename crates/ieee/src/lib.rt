@@ -1,5 +1,7 @@
 // Arithmetic of IEEE 754 that every layer above shares: the definitions of specs/, the laws of proofs/, the conversion
 // of a whole number, and the test for a finite value.
+#![tactic(auto)]
+
 ghost use Rattle.std.specs.Prelude.{◌≡◌, pos};
 ghost use Rattle.std.specs.Float.{binary64};
 ghost use Rattle.std.specs.Float.Ieee.{of_int};

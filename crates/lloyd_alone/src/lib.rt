@@ -1,4 +1,6 @@
 // Nearest and mean error of lloyd.rs, called alone.
+#![tactic(auto)]
+
 ghost use Rattle.std.specs.Prelude.{◌≡◌, ◌<◌, ◌≤◌, ◌+◌, ◌*◌, ◌/◌, ◌^◌, true, length};
 ghost use Rattle.error.specs.Numbers.{completed};
 ghost use Rattle.lloyd_search.specs.Distance.{distance, vector_of, row_of};

@@ -1,5 +1,7 @@
 // The cells of an update, in lent work: adding samples up, the means, and the repair of one empty cell.
 // Every function here is public only for the crates above, which lend work of the right lengths.
+#![tactic(auto)]
+
 ghost use Rattle.std.specs.Prelude.{◌≡◌, ◌⊎◌, ◌+◌, ◌*◌, ◌≤◌, ◌<◌, ◌^◌, pos, length, get_or, set};
 ghost use Rattle.std.specs.Float.{nan, binary64};
 ghost use Rattle.std.specs.Float.Ieee.{add, sub, div, lt, of_int};

@@ -1,5 +1,7 @@
 // The log of repairs: the event that each repair of an empty cell leaves, and the writes to a lent row of such slots.
 // The functions are public only for the crates above.
+#![tactic(auto)]
+
 ghost use Rattle.std.specs.Prelude.{◌≡◌, ◌<◌, length, set, replicate};
 ghost use Rattle.lloyd_events.specs.Events.{zero_event};
 

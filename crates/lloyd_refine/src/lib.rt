@@ -2,6 +2,8 @@
 // the end of a restart, its own end, and the test of its report.
 // A repair is a value here; the event slots are written in one place above. The public functions but the test of a
 // report are public only for the crates above.
+#![tactic(auto)]
+
 ghost use Rattle.std.specs.Prelude.{◌≡◌, true, false, not, ◌&&◌, cond, [], ◌++◌, ◌+◌, ◌*◌, ◌/◌, ◌≤◌, ◌<◌, length, get_or, take, replicate};
 ghost use Rattle.std.specs.Float.{nan, binary32};
 ghost use Rattle.std.specs.Float.Ieee.{lt};

@@ -1,5 +1,7 @@
 // The repair of empty cells, one at a time: the next empty cell, its donor, the donor's farthest sample, the split.
 // Every function here is public only for the crates above, which lend work of the right lengths.
+#![tactic(auto)]
+
 ghost use Rattle.std.specs.Prelude.{◌≡◌, ℕ, ◌<◌, ◌≤◌, length, ◌≢◌, slice_index, slice_index_or, Float};
 ghost use Rattle.std.specs.Float.{nan};
 ghost use Rattle.lloyd_cells.specs.Repair.{Cells, Repaired, event_of};

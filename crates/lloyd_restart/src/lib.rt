@@ -1,5 +1,7 @@
 // The codebooks in the work of a refinement: copied in, from part to part and out, and the start of a restart.
 // Every function here is public only for the crates above, which lend work of the right lengths.
+#![tactic(auto)]
+
 ghost use Rattle.std.specs.Prelude.{◌≡◌, ◌⊎◌, ◌+◌, ◌-◌, ◌*◌, ◌/◌, ◌%◌, ◌≤◌, ◌<◌, length, get_or, take, drop};
 ghost use Rattle.std.specs.Float.{nan, binary32};
 ghost use Rattle.slices.specs.Lists.{tabulate, patched};

@@ -1,6 +1,8 @@
 // A round of refinement in lent work: every sample goes to its nearest
 // codeword and is added up there, and the cells get their means.
 // The public functions are public only for the crates above, which lend work of the right lengths.
+#![tactic(auto)]
+
 ghost use Rattle.std.specs.Prelude.{◌≡◌, true, List, ℕ, ◌+◌, ◌*◌, ◌≤◌, ◌<◌, pos, length, get_or, replicate, Float};
 ghost use Rattle.std.specs.Float.{fin, nan};
 ghost use Rattle.ieee.specs.Sum.{plus_zero};

@@ -1,4 +1,6 @@
 // The search of lloyd.rs: the squared distance, the nearest codeword and the mean error of a codebook.
+#![tactic(auto)]
+
 ghost use Rattle.std.specs.Prelude.{◌≡◌, ◌<◌, ◌≤◌, ◌+◌, ◌*◌, ◌/◌, ◌^◌, length};
 ghost use Rattle.lloyd_search.specs.Distance.{distance, vector_of, row_of};
 ghost use Rattle.lloyd_search.specs.Nearest.{mean_error};

@@ -1,4 +1,6 @@
 // The search over codewords of finite binary32 values, widened to binary64: what the encoder asks for.
+#![tactic(auto)]
+
 ghost use Rattle.std.specs.Prelude.{◌≡◌, ◌≤◌, ◌+◌, ◌*◌, ◌/◌, length};
 ghost use Rattle.lloyd_search.specs.Distance.{distance, vector_of, row_of};
 ghost use Rattle.lloyd_search.specs.Choice.{chosen};

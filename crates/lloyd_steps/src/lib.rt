@@ -1,6 +1,8 @@
 // The refinement step by step: from its checks to the first repair, and
 // from one repair to the next, over the rounds and restarts between them.
 // The public functions are public only for the crate above, which writes the event slots.
+#![tactic(auto)]
+
 ghost use Rattle.std.specs.Prelude.{◌≡◌, true, false, List, [], ◌∷◌, ◌++◌, ◌+◌, ◌*◌, ◌<◌, length};
 ghost use Rattle.error.specs.Numbers.{completed, checked};
 ghost use Rattle.ieee.specs.Sum.{plus_zero};

@@ -1,6 +1,8 @@
 // The update of lloyd.rs, called alone: its checks, its means, its repairs one at a time, and its end.
 // A repair is a value here; the event slots are written in one place
 // above. The public functions are public only for the crates above.
+#![tactic(auto)]
+
 ghost use Rattle.std.specs.Prelude.{◌≡◌, ◌+◌, ◌*◌, ◌/◌, ◌<◌, ◌≤◌, true, false, cond, ◌&&◌, List, [], ◌∷◌, ◌++◌, length, take, replicate, pos, if◌then◌else◌, slice_index};
 ghost use Rattle.std.specs.Float.{fin};
 ghost use Rattle.error.specs.Numbers.{checked};

@@ -1,4 +1,6 @@
 // The mean squared error of two vectors. specs/Mse.antt says what comes out.
+#![tactic(auto)]
+
 ghost use Rattle.std.specs.Prelude.{◌≡◌, length};
 ghost use Rattle.metrics.specs.Mse.{squared_error, mse_outcome, mean_error};
 

@@ -1,6 +1,8 @@
 // Conversions between IEEE 754's binary16, binary32 and binary64, rounded to nearest, ties to even.
 // Rattle's `as` from f64 to f32 is defined only where nothing is lost, so narrowing is worked out on
 // bits. There is no type for binary16: a value of it is its bit pattern, a u16.
+#![tactic(auto)]
+
 ghost use Rattle.std.specs.Prelude.{◌≡◌, ◌+◌, ◌-◌, ◌*◌, ◌^◌, ◌<◌, ◌≤◌, min, false, if◌then◌else◌, from_bits, nat_le};
 ghost use Rattle.std.specs.Float.{binary32, binary64};
 ghost use Rattle.std.specs.Float.Ieee.{odd};

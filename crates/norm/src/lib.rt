@@ -1,4 +1,6 @@
 // The norm of a code as codec.rs stores it: two bytes, the little-endian binary16 pattern of a finite value above zero.
+#![tactic(auto)]
+
 ghost use Rattle.std.specs.Prelude.{◌≡◌};
 ghost use Rattle.narrow.specs.Format.{unpacked};
 ghost use Rattle.norm.specs.Norm.{above_zero, norm_bits, norm_value, bits_of, value_of};

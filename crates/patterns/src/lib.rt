@@ -1,5 +1,7 @@
 // Floats by their bit patterns, NaN included, for programs that read and write them.
 // Rattle's to_bits and from_bits are undefined at a NaN; here all NaNs are one, as in the contracts.
+#![tactic(auto)]
+
 ghost use Rattle.std.specs.Prelude.{◌≡◌};
 ghost use Rattle.std.specs.Float.{binary32, binary64};
 ghost use Rattle.std.specs.Float.Ieee.{of_bits, to_bits};

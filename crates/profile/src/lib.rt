@@ -2,6 +2,8 @@
 // fib-quant, without digest and message texts. specs/Checks.antt has the order, the
 // numbers and the values of the checks. log2 of the codebook size is handed in.
 // Public only for the checks of a refinement and of a report.
+#![tactic(auto)]
+
 pub mod checks;
 
 ghost use Rattle.std.specs.Prelude.{◌≡◌};

@@ -1,5 +1,7 @@
 // The refinement of lloyd.rs as it is called: the steps of `lloyd_steps`,
 // with the event of each repair written to a lent row of slots.
+#![tactic(auto)]
+
 ghost use Rattle.std.specs.Prelude.{◌≡◌, length};
 ghost use Rattle.error.specs.Numbers.{completed, and_then};
 ghost use Rattle.ieee.specs.Sum.{plus_zero};

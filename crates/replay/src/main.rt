@@ -2,6 +2,8 @@
 // and answers that host/record wrote down, from the unchanged Rust (README.md); each
 // input goes to the proved function, and its answer and its buffers are compared.
 // For each function a line: its name, how many answers are equal, how many are not. A file of another form: `malformed`.
+#![tactic(auto)]
+
 mod answer;
 mod counts;
 mod errors;

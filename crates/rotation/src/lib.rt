@@ -1,5 +1,7 @@
 // A rotation: a d × d matrix, stored row by row, applied to a vector, and its transpose, which undoes it.
 // specs/Apply.antt says what comes out: sums from +0.0, their terms in order, each operation rounded.
+#![tactic(auto)]
+
 ghost use Rattle.std.specs.Prelude.{◌≡◌, ℕ, ◌+◌, ◌*◌, ◌≤◌, ◌++◌, length, get_or, take, drop};
 ghost use Rattle.std.specs.Float.{nan, binary64};
 ghost use Rattle.std.specs.Float.Ieee.{add, mul};

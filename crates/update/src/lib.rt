@@ -1,5 +1,7 @@
 // The update of lloyd.rs as it is called: the steps of `lloyd_update`,
 // with the event of each repair written to a lent row of slots.
+#![tactic(auto)]
+
 ghost use Rattle.std.specs.Prelude.{◌≡◌, false, not, ◌&&◌, [], length};
 ghost use Rattle.error.specs.Numbers.{completed, and_then};
 ghost use Rattle.ieee.specs.Sum.{plus_zero};

@@ -5,6 +5,8 @@
 // What has to come out, the file stdout, is not this program's own: host/expected writes
 // it, from the processor's conversions, roots and sums, from a binary16 of its own that
 // was tried against the processor, and from the numbers that document 01 states.
+#![tactic(auto)]
+
 mod narrowing;
 mod roots;
 mod shapes;
