@@ -50,8 +50,20 @@ def snake(word):
     return word
 
 
+def imported():
+    """What the files take from the library."""
+    names = set()
+    for path in glob.glob("crates/*/**/*.antt", recursive=True):
+        for line in open(path):
+            found = re.match(r"use ([\w.]+)\.\{(.*)\}", line)
+            if found and not found.group(1).startswith("Rattle.") or found and found.group(1).startswith("Rattle.std."):
+                names |= {n.strip() for n in found.group(2).split(",")}
+    return names
+
+
 def renamed(kinds):
-    mine = {n: k for n, k in kinds.items() if re.match(r"^[a-z]", n) and "goal" not in k}
+    library = imported()
+    mine = {n: k for n, k in kinds.items() if re.match(r"^[a-z]", n) and "goal" not in k and n not in library}
     definitions = {snake(n) for n, k in mine.items() if "definition" in k and "-" not in n} | LIBRARY
     new = {}
     for name, kind in mine.items():
@@ -63,17 +75,6 @@ def renamed(kinds):
         if out != name:
             new[name] = out
     return new
-
-
-def imported():
-    """What the files take from the library."""
-    names = set()
-    for path in glob.glob("crates/*/**/*.antt", recursive=True):
-        for line in open(path):
-            found = re.match(r"use ([\w.]+)\.\{(.*)\}", line)
-            if found and not found.group(1).startswith("Rattle.") or found and found.group(1).startswith("Rattle.std."):
-                names |= {n.strip() for n in found.group(2).split(",")}
-    return names
 
 
 def parted(kinds, new):

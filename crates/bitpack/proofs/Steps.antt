@@ -3,7 +3,7 @@
 use Prim.Native.Nat.{ℕ, suc, ◌+◌, ◌*◌, ◌-◌, ◌/◌, ◌%◌, ◌^◌, ◌<◌, ◌≤◌}
 use mathlib.Core.Path.{◌≡◌, refl, sym, ap, ◌∙◌}
 use mathlib.Core.List.{List}
-use native.Mathlib.Nat.{add_comm, mul-le-mul_right, suc_mul, one-mul}
+use native.Mathlib.Nat.{add_comm, mul-le-mul_right, suc-mul, one-mul}
 use native.Mathlib.Numerals.{add-one}
 use native.Mathlib.Omega.{arith}
 use lib.ListN.{length, get_or, set, length-append, length-drop}
@@ -31,14 +31,14 @@ masked acc w l = rw (power w l) (and_mask acc w)
 -- bits above those held make a value below the next power
 pub load_small : (acc have b k : ℕ) → acc < 2 ^ have → b < 2 ^ k → acc + b * 2 ^ have < 2 ^ (have + k)
 load_small acc have b k small l =
-    rw (add_comm have k, pow-add 2 k have) (omega (arith, mul-le-mul_right {m = suc b} {n = 2 ^ k} (2 ^ have) l, suc_mul b (2 ^ have)))
+    rw (add_comm have k, pow-add 2 k have) (omega (arith, mul-le-mul_right {m = suc b} {n = 2 ^ k} (2 ^ have) l, suc-mul b (2 ^ have)))
 
 -- index i + 1 of width w starts where index i ends, and the last of n ends at n * w
 pub next_place : (i w : ℕ) → (i + 1) * w ≡ i * w + w
-next_place i w = rw add-one (suc_mul i w)
+next_place i w = rw add-one (suc-mul i w)
 
 pub next_within : (i n w : ℕ) → i < n → i * w + w ≤ n * w
-next_within i n w l = omega (arith, mul-le-mul_right {m = suc i} {n = n} w l, suc_mul i w)
+next_within i n w l = omega (arith, mul-le-mul_right {m = suc i} {n = n} w l, suc-mul i w)
 
 -- the next byte, loaded above the bits that are held
 pub reading_load : (bytes : List ℕ) (p at acc have : ℕ) → Reading bytes p at acc have → get_or bytes at 0 < 256

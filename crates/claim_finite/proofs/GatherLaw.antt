@@ -2,7 +2,7 @@
 -- so every result of the gathering and of the means is finite. Assumes nothing.
 use mathlib.Core.Path.{◌≡◌, sym}
 use Prim.Native.Nat.{ℕ, zero, suc, ◌+◌, ◌*◌, ◌^◌, ◌≤◌, ◌<◌, zero-le}
-use native.Mathlib.Nat.{le_refl, le_step, lt-suc_self, lt_of_lt_of_le, one-mul, suc_mul, mul-le-mul_right}
+use native.Mathlib.Nat.{le_refl, le_step, lt-suc_self, lt_of_lt_of_le, one-mul, suc-mul, mul-le-mul_right}
 use native.Mathlib.Omega.{arith}
 use native.Mathlib.Decide.{ℕ_discrete}
 use mathlib.Core.Bool.{false}
@@ -28,7 +28,7 @@ module _ (a : ℕ → ℕ) (t : ℕ → Float) (c i : ℕ) (room : i + 53 ≤ 10
   joined n m e h before =
       let l = count_to_upto a c n in
       let one : count_to a c (suc n) ≡ suc (count_to a c n) = rw (count_to_in a c n e) (omega arith) in
-      let is : count_to a c n * 2 ^ i + 2 ^ i ≡ suc (count_to a c n) * 2 ^ i = sym (suc_mul (count_to a c n) (2 ^ i)) in
+      let is : count_to a c n * 2 ^ i + 2 ^ i ≡ suc (count_to a c n) * 2 ^ i = sym (suc-mul (count_to a c n) (2 ^ i)) in
       rw (cell_sum_in a c n t e, one, sym is)
       (add_upto binary64 (cell_sum a t c n) (t n) (count_to a c n * 2 ^ i) (2 ^ i)
       (record { q = suc (count_to a c n); j = i; small = omega arith; reach = room; is = is }) before h)

@@ -2,7 +2,7 @@
 -- fraction of at most a / c rounds to a finite float of size at most a / c. And so for sums,
 -- differences, products and quotients: for each a law `-below` (by what the bound rounds
 -- to), and from it one for bounds that are whole numbers of the format. Assumes nothing.
-use Rattle.std.proofs.Common.{◌≡◌, ℕ, zero, suc, ◌+◌, ◌-◌, ◌*◌, ◌/◌, ◌%◌, ◌^◌, ◌<◌, ◌≤◌, Bool, true, false, cond, not, ◌&&◌, ◌||◌, T, eqb, ltb, pos, sym, refl, ap, ◌∙◌, subst, true≢false, zero-le, le_trans, le_of_eq, le_refl, lt_of_lt_of_le, le_of_lt, mul-le-mul_right, zero-lt-suc, mul_assoc, lt-suc_self, suc_mul, mul_comm, add-mul, mul-le-mul, mul-pos, one-mul, mul-one, mul_right_comm, le_of_mul-le-mul_right, mul_left_comm, arith, eqb→eq, ltb→lt, pow_mono, pow-add, shl_lt}
+use Rattle.std.proofs.Common.{◌≡◌, ℕ, zero, suc, ◌+◌, ◌-◌, ◌*◌, ◌/◌, ◌%◌, ◌^◌, ◌<◌, ◌≤◌, Bool, true, false, cond, not, ◌&&◌, ◌||◌, T, eqb, ltb, pos, sym, refl, ap, ◌∙◌, subst, true≢false, zero-le, le_trans, le_of_eq, le_refl, lt_of_lt_of_le, le_of_lt, mul-le-mul_right, zero-lt-suc, mul_assoc, lt-suc_self, suc-mul, mul_comm, add-mul, mul-le-mul, mul-pos, one-mul, mul-one, mul_right_comm, le_of_mul-le-mul_right, mul_left_comm, arith, eqb→eq, ltb→lt, pow_mono, pow-add, shl_lt}
 use Prim.Native.Nat.{compare}
 use native.Mathlib.Nat.{le_step, le_of_suc-le, mul-mul-mul_comm}
 use mathlib.Core.Bool.{beq}
@@ -260,8 +260,8 @@ pub sum_to_upto : (t : ℕ → Float) (n j : ℕ) → ((i : ℕ) → i < n → U
 unfolding sum_to
 sum_to_upto t zero j h N J = zero-le
 sum_to_upto t (suc n) j h N J =
-    subst (λ (z : ℕ). Upto (add binary64 (sum_to t n) (t n)) z) (sym (suc_mul n (2 ^ j)))
-    (add_upto binary64 (sum_to t n) (t n) (n * 2 ^ j) (2 ^ j) (record { q = suc n; j = j; small = N; reach = J; is = sym (suc_mul n (2 ^ j)) })
+    subst (λ (z : ℕ). Upto (add binary64 (sum_to t n) (t n)) z) (sym (suc-mul n (2 ^ j)))
+    (add_upto binary64 (sum_to t n) (t n) (n * 2 ^ j) (2 ^ j) (record { q = suc n; j = j; small = N; reach = J; is = sym (suc-mul n (2 ^ j)) })
     (sum_to_upto t n j (λ i l. h i (le_step l)) (le_of_suc-le N) J) (h n (lt-suc_self n)))
 
 -- ---- 2 ^ 48 is not passed by a step of at most 2 ^ -6: 2 ^ 48 + 2 ^ -6 rounds to 2 ^ 48

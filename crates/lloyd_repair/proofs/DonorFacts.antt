@@ -1,5 +1,5 @@
 -- What the work shows of a donor: its number, its farthest sample, the norm of its residual. Assumes nothing.
-use Rattle.std.proofs.Common.{◌≡◌, ℕ, ◌+◌, ◌-◌, ◌*◌, ◌<◌, ◌≤◌, Bool, true, false, List, length, get_or, take, drop, sym, refl, ap, ◌∙◌, subst, add_assoc, suc_mul, arith}
+use Rattle.std.proofs.Common.{◌≡◌, ℕ, ◌+◌, ◌-◌, ◌*◌, ◌<◌, ◌≤◌, Bool, true, false, List, length, get_or, take, drop, sym, refl, ap, ◌∙◌, subst, add_assoc, suc-mul, arith}
 use lib.Ieee.{Float, nan, binary64}
 use Rattle.root.specs.Sqrt.{sqrt_of}
 use Rattle.slices.specs.declared.First.TheVariants.{At}
@@ -64,7 +64,7 @@ module _ {p : Places} {m : Numbers} {t : Terms} {samples : List Float} {e donor 
     number_is = held farthest_at.number farthest_at.at
 
     pub sample_fits : q * t.dim + t.dim ≤ length samples
-    sample_fits = let h = farthest_at.inside in let n = number_is in let s = suc_mul farthest_at.number t.dim in let a : q * t.dim ≡ farthest_at.number * t.dim = ap (λ (z : ℕ). z * t.dim) n in omega arith
+    sample_fits = let h = farthest_at.inside in let n = number_is in let s = suc-mul farthest_at.number t.dim in let a : q * t.dim ≡ farthest_at.number * t.dim = ap (λ (z : ℕ). z * t.dim) n in omega arith
 
     -- the part of the samples that is handed over is the farthest sample
     pub part_far : (at : ℕ) → at ≡ q * t.dim → (j : ℕ) → j < t.dim → vector_of (take (at + t.dim - at) (drop at samples)) j ≡ far donor j

@@ -2,7 +2,7 @@
 use mathlib.Core.Path.{◌≡◌, refl, sym, ap, ◌∙◌}
 use mathlib.Core.Bool.{Bool, true, false}
 use Prim.Native.Nat.{ℕ, suc, ◌≤◌, ◌<◌, ◌-◌, ◌+◌, ◌*◌, ◌/◌, ◌%◌}
-use native.Mathlib.Nat.{zero-mul, zero-add, suc_mul}
+use native.Mathlib.Nat.{zero-mul, zero-add, suc-mul}
 use native.Mathlib.Numerals.{add-one}
 use native.Mathlib.Omega.{arith}
 use mathlib.Core.List.{List, ◌++◌}
@@ -64,7 +64,7 @@ word_length k at xs h = mid_len at (at + k) xs h ∙ back
     back = omega arith
 
 pub end_inside : (c k at end : ℕ) → at ≡ c * k → end ≡ at + k → end ≡ (c + 1) * k
-end_inside c k at end a e = let s = suc_mul c k in let o : (c + 1) * k ≡ suc c * k = ap (λ (z : ℕ). z * k) (add-one c) in omega arith
+end_inside c k at end a e = let s = suc-mul c k in let o : (c + 1) * k ≡ suc c * k = ap (λ (z : ℕ). z * k) (add-one c) in omega arith
 
 module _ (k at c : ℕ) (matrix initial old work new : List Float) (place : at ≡ c * k) (has : at + k ≤ length initial) (fits : at + k ≤ length work) (h : Rotated k matrix initial old c work)
     (is : new ≡ applied (length (take (at + k - at) (drop at initial))) matrix (take (at + k - at) (drop at initial))) where

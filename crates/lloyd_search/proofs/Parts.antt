@@ -1,7 +1,7 @@
 -- A row of a list, handed over as a part of a slice; distance and nearest see coordinates only. Assumes nothing.
 use mathlib.Core.Path.{◌≡◌, refl, ap, ◌∙◌}
 use Prim.Native.Nat.{ℕ, zero, suc, ◌+◌, ◌-◌, ◌*◌, ◌≤◌, ◌<◌}
-use native.Mathlib.Nat.{add-mul, suc_mul, mul-le-mul_right, le_step, lt-suc_self}
+use native.Mathlib.Nat.{add-mul, suc-mul, mul-le-mul_right, le_step, lt-suc_self}
 use native.Mathlib.Omega.{arith}
 use mathlib.Core.List.{List}
 use lib.ListN.{length, get_or, take, drop, length-take, length-drop}
@@ -15,14 +15,14 @@ use Rattle.lloyd_search.specs.Choice.{last_least, chosen}
 
 -- row i of n lies within the list
 pub row_fits : (i n k at L : ℕ) → i < n → at ≡ i * k → L ≡ n * k → at + k ≤ L
-row_fits i n k at L h a l = omega (arith, mul-le-mul_right k h, suc_mul i k)
+row_fits i n k at L h a l = omega (arith, mul-le-mul_right k h, suc-mul i k)
 
 -- the place of a coordinate of row i lies within the list
 pub row_place : (i n k j L : ℕ) → i < n → j < k → L ≡ n * k → i * k + j < L
-row_place i n k j L h l e = omega (arith, mul-le-mul_right k h, suc_mul i k)
+row_place i n k j L h l e = omega (arith, mul-le-mul_right k h, suc-mul i k)
 
 pub next_row : (i k at end : ℕ) → at ≡ i * k → end ≡ at + k → end ≡ (i + 1) * k
-next_row i k at end a e = let s = suc_mul i k in let o : (i + 1) * k ≡ suc i * k = ap (λ (z : ℕ). z * k) one in omega arith
+next_row i k at end a e = let s = suc-mul i k in let o : (i + 1) * k ≡ suc i * k = ap (λ (z : ℕ). z * k) one in omega arith
   where
     one : i + 1 ≡ suc i
     one = omega arith

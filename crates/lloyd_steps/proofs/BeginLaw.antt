@@ -2,7 +2,7 @@
 -- start and the best so far. How the rounds left fall. Assumes nothing.
 use mathlib.Core.Path.{◌≡◌, refl, sym, ap, ◌∙◌, subst}
 use Prim.Native.Nat.{ℕ, suc, ◌+◌, ◌-◌, ◌*◌, ◌/◌, ◌<◌}
-use native.Mathlib.Nat.{suc_mul}
+use native.Mathlib.Nat.{suc-mul}
 use native.Mathlib.Omega.{arith}
 use mathlib.Core.Bool.{Bool, true, false, true≢false}
 use mathlib.Core.List.{List}
@@ -99,7 +99,7 @@ module _ (restarts iterations r i : ℕ) (below : r < restarts) (lower : i < ite
   one_less : (restarts - r) * iterations ≡ iterations + (restarts - (r + 1)) * iterations
   one_less =
       let e : restarts - r ≡ suc (restarts - (r + 1)) = omega arith in
-      ap (λ (z : ℕ). z * iterations) e ∙ suc_mul (restarts - (r + 1)) iterations ∙ swap ((restarts - (r + 1)) * iterations)
+      ap (λ (z : ℕ). z * iterations) e ∙ suc-mul (restarts - (r + 1)) iterations ∙ swap ((restarts - (r + 1)) * iterations)
     where
       swap : (m : ℕ) → m + iterations ≡ iterations + m
       swap m = omega arith

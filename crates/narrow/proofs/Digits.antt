@@ -3,7 +3,7 @@ use Rattle.std.proofs.Common.{◌≡◌, ℕ, suc, ◌+◌, ◌-◌, ◌*◌, �
 use native.Mathlib.Nat.{div-div-eq-div-mul, two-pow-succ}
 use lib.Ieee.{size}
 use lib.Ieee.Digits.{size-lt, size-le, size_reaches}
-use lib.Ieee.Fits.{kept_lt}
+use lib.Ieee.Fits.{kept-lt}
 use lib.Ieee.Order.{drop}
 
 pub size_is : (n j : ℕ) → 2 ^ j ≤ n → n < 2 ^ suc j → size n ≡ suc j
@@ -17,7 +17,7 @@ half p P = ap (λ (x : ℕ). 2 ^ x) (pick p P) ∙ two-pow-succ (p - 1)
 
 -- at most p digits of the whole part are kept, and all p where digits are dropped
 pub whole_lt : (p n den : ℕ) → n / (den * 2 ^ drop p n den) < 2 ^ p
-whole_lt p n den = subst (λ (x : ℕ). x < 2 ^ p) (div-div-eq-div-mul n den (2 ^ drop p n den)) (kept_lt p (n / den))
+whole_lt p n den = subst (λ (x : ℕ). x < 2 ^ p) (div-div-eq-div-mul n den (2 ^ drop p n den)) (kept-lt p (n / den))
 
 all_in_use : (z p : ℕ) → 0 < p → 0 < z - p → p - 1 + (z - p) < z
 all_in_use z p P h = omega arith

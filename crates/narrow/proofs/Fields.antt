@@ -1,5 +1,5 @@
 -- The value that a pattern's fields stand for, and `packed` of it. Assumes nothing.
-use Rattle.std.proofs.Common.{◌≡◌, ℕ, zero, suc, ◌+◌, ◌-◌, ◌*◌, ◌/◌, ◌^◌, ◌<◌, ◌≤◌, min, Bool, true, false, cond, eqb, sym, refl, ap, ◌∙◌, zero-le, le_refl, mul_assoc, suc_mul, mul_comm, mul-le-mul, mul-pos, div-le_self, mul_right_comm, arith, pow_pos, pow_mono, eq-eqb, ne_eqb}
+use Rattle.std.proofs.Common.{◌≡◌, ℕ, zero, suc, ◌+◌, ◌-◌, ◌*◌, ◌/◌, ◌^◌, ◌<◌, ◌≤◌, min, Bool, true, false, cond, eqb, sym, refl, ap, ◌∙◌, zero-le, le_refl, mul_assoc, suc-mul, mul_comm, mul-le-mul, mul-pos, div-le_self, mul_right_comm, arith, pow_pos, pow_mono, eq-eqb, ne_eqb}
 use native.Mathlib.Nat.{min-le_right}
 use lib.Ieee.{Float, nan, inf, fin, Format, prec, low, hid, ones, up, down, size, odd, of_fields}
 use lib.Ieee.Fits.{down_pos}
@@ -74,7 +74,7 @@ mag_le p E a b = min-le_right _ _
 
 -- the sign's weight is past infinity's pattern
 pub top_split : (p E : ℕ) → top_of p E ≡ inf_of p E + 2 ^ (p - 1)
-top_split p E = ap (λ (y : ℕ). 2 ^ (p - 1) * y) (next (2 * E)) ∙ mul_comm (2 ^ (p - 1)) (suc (2 * E + 1)) ∙ suc_mul (2 * E + 1) (2 ^ (p - 1))
+top_split p E = ap (λ (y : ℕ). 2 ^ (p - 1) * y) (next (2 * E)) ∙ mul_comm (2 ^ (p - 1)) (suc (2 * E + 1)) ∙ suc-mul (2 * E + 1) (2 ^ (p - 1))
   where
     next : (n : ℕ) → n + 2 ≡ suc (n + 1)
     next n = omega arith

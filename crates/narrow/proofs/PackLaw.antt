@@ -1,6 +1,6 @@
 -- `mag_of` at the kit's two formats is what `to_bits` makes of the rounded value, so `packed` and `narrow_to` agree. A
 -- rounded value fits, and is no NaN. Assumes nothing.
-use Rattle.std.proofs.Common.{◌≡◌, ℕ, zero, suc, ◌+◌, ◌-◌, ◌*◌, ◌/◌, ◌%◌, ◌^◌, ◌<◌, ◌≤◌, min, Bool, true, false, cond, not, T, ltb, sym, refl, ap, ◌∙◌, subst, inl, inr, true≢false, zero-le, le_trans, le_of_eq, le_refl, le_of_lt, add_assoc, mul-le-mul_right, suc_mul, mul_comm, eq-or-lt_of_le, mul-one, mul-div_cancel, sub-eq-zero_of_le, arith, ltb→lt, nltb→le, pow_pos, pow-add, shl_lt}
+use Rattle.std.proofs.Common.{◌≡◌, ℕ, zero, suc, ◌+◌, ◌-◌, ◌*◌, ◌/◌, ◌%◌, ◌^◌, ◌<◌, ◌≤◌, min, Bool, true, false, cond, not, T, ltb, sym, refl, ap, ◌∙◌, subst, inl, inr, true≢false, zero-le, le_trans, le_of_eq, le_refl, le_of_lt, add_assoc, mul-le-mul_right, suc-mul, mul_comm, eq-or-lt_of_le, mul-one, mul-div_cancel, sub-eq-zero_of_le, arith, ltb→lt, nltb→le, pow_pos, pow-add, shl_lt}
 use Prim.Native.Nat.{compare}
 use native.Mathlib.Nat.{min-eq_left, min-eq_right}
 use lib.Pow.{pow-lt}
@@ -61,7 +61,7 @@ written_is p q k P a b = elim (eq-or-lt_of_le a) [
     cut p k = omega arith
 
     ends : (h q k : ℕ) → q ≡ h + h → suc k * h + h ≡ k * h + q
-    ends h q k e = omega (arith, suc_mul k h)
+    ends h q k e = omega (arith, suc-mul k h)
 
 -- ---- `to_bits` of a finite float that equals w / 2 ^ low
 pub to_bits_at : (f : Format) (x : Float) (s : Bool) (w : ℕ) → HasValue x s w (2 ^ low f) → to_bits f x ≡ cond s (top f) 0 + written (prec f) w

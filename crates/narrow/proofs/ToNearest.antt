@@ -1,6 +1,6 @@
 -- `mag_of` rounds to nearest, ties to even, in IEEE 754's own words
 -- (`Rounded`), at every precision and every largest exponent. Assumes nothing.
-use Rattle.std.proofs.Common.{◌≡◌, ℕ, zero, suc, ◌+◌, ◌-◌, ◌*◌, ◌/◌, ◌%◌, ◌^◌, ◌<◌, ◌≤◌, min, cond, ltb, ◌≢◌, ◌⊎◌, sym, refl, ap, ◌∙◌, subst, inl, inr, zero-le, le_trans, lt_trans, le_of_eq, le_refl, le_of_suc-le-suc, le_of_lt, add-suc, mod-lt, lt-suc_self, suc_mul, mul_comm, add-mul, le_antisymm, eq-or-lt_of_le, mul-lt-mul_of_pos_right, mul-pos, one-mul, div-add-mod', le-div_iff_mul-le, zero-add, zero-mul, mul-one, mul-add, mul_left_comm, arith, pow_pos, pow-add, le-ltb, lt-ltb}
+use Rattle.std.proofs.Common.{◌≡◌, ℕ, zero, suc, ◌+◌, ◌-◌, ◌*◌, ◌/◌, ◌%◌, ◌^◌, ◌<◌, ◌≤◌, min, cond, ltb, ◌≢◌, ◌⊎◌, sym, refl, ap, ◌∙◌, subst, inl, inr, zero-le, le_trans, lt_trans, le_of_eq, le_refl, le_of_suc-le-suc, le_of_lt, add-suc, mod-lt, lt-suc_self, suc-mul, mul_comm, add-mul, le_antisymm, eq-or-lt_of_le, mul-lt-mul_of_pos_right, mul-pos, one-mul, div-add-mod', le-div_iff_mul-le, zero-add, zero-mul, mul-one, mul-add, mul_left_comm, arith, pow_pos, pow-add, le-ltb, lt-ltb}
 use Prim.Native.Nat.{compare, Ordering}
 use native.Mathlib.Nat.{le_step, eq_of_mul-eq-mul_left, mul-lt-mul_of_pos_left, div-eq_of_lt, two-pow-succ, min-eq_left, min-eq_right, min-le_right}
 use lib.Arith.{digits_div, digits_mod}
@@ -128,7 +128,7 @@ module _ (H : ℕ) (some : 0 < H) where
 
   -- the fields x + 1 and t
   value_fields : (x t : ℕ) → t < H → value H (suc x * H + t) ≡ (H + t) * 2 ^ x
-  value_fields x t h = rw (value_high (suc x * H + t) (omega (arith, suc_mul x H)), digits_div (suc x) h, digits_mod (suc x) h, one_less)
+  value_fields x t h = rw (value_high (suc x * H + t) (omega (arith, suc-mul x H)), digits_div (suc x) h, digits_mod (suc x) h, one_less)
 
   -- the pattern with k in the exponent's field and the digits w added, whose leading one may carry into the field
   value_at_lem : (k w : ℕ) → w ≤ H + H → (0 < k → H ≤ w) → value H (k * H + w) ≡ w * 2 ^ k
@@ -140,10 +140,10 @@ module _ (H : ℕ) (some : 0 < H) where
 
       high : H ≤ w → (w ≡ H + H) ⊎ (w < H + H) → value H (k * H + w) ≡ w * 2 ^ k
       high l (inl e) =
-          let t : k * H + w ≡ suc (suc k) * H + 0 = omega (arith, suc_mul (suc k) H, suc_mul k H) in
+          let t : k * H + w ≡ suc (suc k) * H + 0 = omega (arith, suc-mul (suc k) H, suc-mul k H) in
           rw (t, value_fields (suc k) 0 some, e, two-pow-succ) (omega (arith, add-mul H H (2 ^ k), mul-add H (2 ^ k) (2 ^ k)))
       high l (inr j) =
-          let t : k * H + w ≡ suc k * H + (w - H) = omega (arith, suc_mul k H) in
+          let t : k * H + w ≡ suc k * H + (w - H) = omega (arith, suc-mul k H) in
           let d : H + (w - H) ≡ w = omega arith in
           rw (t, value_fields k (w - H) (omega arith), d)
 
@@ -167,7 +167,7 @@ module _ (H : ℕ) (some : 0 < H) where
           let a : 0 < m / H = (le-div_iff_mul-le some).1 (omega arith) in
           let e : m / H ≡ suc (m / H - 1) = omega arith in
           let t = mod-lt m some in
-          step (m / H - 1) (H + m % H) (omega (arith, div-add-mod' m H, suc_mul (m / H - 1) H, ap (λ (x : ℕ). x * H) e)) (omega arith) (λ _. omega arith)
+          step (m / H - 1) (H + m % H) (omega (arith, div-add-mod' m H, suc-mul (m / H - 1) H, ap (λ (x : ℕ). x * H) e)) (omega arith) (λ _. omega arith)
 
       go : Place m H → value H m < value H (suc m)
       go (before l) = step 0 m (omega arith) (omega arith) (λ z. absurd (omega arith))
@@ -266,7 +266,7 @@ rounded p emax num den P D = record { within = min-le_right _ _; none_nearer = a
     foot = ap (λ (x : ℕ). x + r) at_w ∙ div-add-mod' n u
 
     step : f (suc (k * H + w)) ≡ f (k * H + w) + u
-    step = at_next ∙ suc_mul w u ∙ ap (λ (x : ℕ). x + u) (sym at_w)
+    step = at_next ∙ suc-mul w u ∙ ap (λ (x : ℕ). x + u) (sym at_w)
 
     is : nearest (k * H + w) (compare (r * 2) u) ≡ k * H + closest n u
     is = rw (even_field p k P) (sym (nearest-field (k * 2 ^ (p - 2)) w (compare (r * 2) u)))

@@ -153,9 +153,10 @@ pub fn f64_to_f16_bits(x: f64) -> u16
     ensures { result ≡ packed 11 15 x }
 {
     if x != x {
-        return 0x7E00;
+        0x7E00
+    } else {
+        narrowed(11, 15, f64::to_bits(x)) as u16
     }
-    narrowed(11, 15, f64::to_bits(x)) as u16
 }
 
 // The value of a binary16 pattern, which binary32 holds exactly.

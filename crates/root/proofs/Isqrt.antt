@@ -1,7 +1,7 @@
 -- The integer square root: r * r ≤ n < (r + 1) * (r + 1), and only one r is so. Assumes nothing.
 use mathlib.Core.Path.{◌≡◌, refl, sym, ap, ◌∙◌, subst}
 use Prim.Native.Nat.{ℕ, zero, suc, ◌+◌, ◌*◌, ◌/◌, ◌^◌, ◌≤◌, ◌<◌, zero-le}
-use native.Mathlib.Nat.{le_trans, le_of_eq, le_antisymm, lt_of_lt_of_le, lt_of_not-le, not-le_of_lt, le_of_suc-le-suc, mul_comm, mul-le-mul, lt_of_mul-lt-mul_right, le_of_mul-le-mul_right, mul-pos, mul-mul-mul_comm, div-add-mod', mod-lt, suc_mul, pow-suc}
+use native.Mathlib.Nat.{le_trans, le_of_eq, le_antisymm, lt_of_lt_of_le, lt_of_not-le, not-le_of_lt, le_of_suc-le-suc, mul_comm, mul-le-mul, lt_of_mul-lt-mul_right, le_of_mul-le-mul_right, mul-pos, mul-mul-mul_comm, div-add-mod', mod-lt, suc-mul, pow-suc}
 use native.Mathlib.Omega.{arith}
 use mathlib.Core.Bool.{Bool, true, false, not, cond}
 use lib.Dec.{T, leb, leb→le, nleb→lt}
@@ -16,7 +16,7 @@ sq_mono a b h = mul-le-mul h h
 
 -- (a + 1) * (a + 1), written out
 pub next_square : (a : ℕ) → suc a * suc a ≡ a * a + a + a + 1
-next_square a = omega (arith, suc_mul a (suc a), mul_comm a (suc a), suc_mul a a)
+next_square a = omega (arith, suc-mul a (suc a), mul_comm a (suc a), suc-mul a a)
 
 pub sq_lt : (a b : ℕ) → a < b → a * a < b * b
 sq_lt a b h = lt_of_lt_of_le (omega (arith, next_square a)) (sq_mono (suc a) b h)
@@ -97,6 +97,6 @@ shrink n G s P h =
     let e = div-add-mod' s G in
     let l = mod-lt s P in
     let lo : r * r * (G * G) ≤ n * (G * G) = le_trans (le_of_eq (sym (sq_mul r G))) (le_trans (sq_mono (r * G) s (omega arith)) h.0) in
-    let top : suc s ≤ suc r * G = omega (arith, suc_mul r G) in
+    let top : suc s ≤ suc r * G = omega (arith, suc-mul r G) in
     let hi : n * (G * G) < suc r * suc r * (G * G) = lt_of_lt_of_le h.1 (le_trans (sq_mono (suc s) (suc r * G) top) (le_of_eq (sq_mul (suc r) G))) in
     (le_of_mul-le-mul_right lo (mul-pos P P), lt_of_mul-lt-mul_right (G * G) hi)

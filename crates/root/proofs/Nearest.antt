@@ -2,7 +2,7 @@
 -- in whole numbers, and there is never a tie. Assumes nothing.
 use mathlib.Core.Path.{◌≡◌, refl, sym, ap, ◌∙◌, subst}
 use Prim.Native.Nat.{ℕ, zero, suc, ◌+◌, ◌-◌, ◌*◌, ◌/◌, ◌%◌, ◌^◌, ◌≤◌, ◌<◌}
-use native.Mathlib.Nat.{le_refl, le_trans, le_of_eq, le_of_suc-le-suc, lt_of_le_of_lt, lt_of_lt_of_le, lt_of_not-le, not-le_of_lt, add-sub_of_le, add-le-add, mul-one, mul_comm, mul_assoc, mul_left_comm, mul_right_comm, mul-le-mul_right, mul-lt-mul_of_pos_right, lt_of_mul-lt-mul_right, mul-pos, suc_mul, pow-suc, zero-lt-suc}
+use native.Mathlib.Nat.{le_refl, le_trans, le_of_eq, le_of_suc-le-suc, lt_of_le_of_lt, lt_of_lt_of_le, lt_of_not-le, not-le_of_lt, add-sub_of_le, add-le-add, mul-one, mul_comm, mul_assoc, mul_left_comm, mul_right_comm, mul-le-mul_right, mul-lt-mul_of_pos_right, lt_of_mul-lt-mul_right, mul-pos, suc-mul, pow-suc, zero-lt-suc}
 use native.Mathlib.Omega.{arith}
 use mathlib.Core.Bool.{true, false, ◌&&◌}
 use lib.Dec.{T, leb, ltb, eqb, ltb→lt, leb→le}
@@ -78,8 +78,8 @@ module _ (N g d r q half : ℕ) (D : 0 < d) (b : Between N r) (e2 : N ≡ 2 * ha
   lower (suc zero) z =
       let u : units_of 53 pat ≡ suc r * G = here ∙ ap (λ (x : ℕ). x * G) (omega arith) in
       let w : units_of 53 (pat - 1) ≡ (r - 1) * G = ap (units_of 53) (before (suc g * 2 ^ 52) q (omega arith)) ∙ near (q - 1) (omega arith) (omega arith) ∙ ap (λ (x : ℕ). x * G) (omega arith) in
-      let s = suc_mul r G in
-      let t : (r - 1) * G + G ≡ r * G = sym (suc_mul (r - 1) G) ∙ ap (λ (x : ℕ). x * G) (omega arith) in
+      let s = suc-mul r G in
+      let t : (r - 1) * G + G ≡ r * G = sym (suc-mul (r - 1) G) ∙ ap (λ (x : ℕ). x * G) (omega arith) in
       let o : r ≡ 2 * (r / 2) + 1 = omega arith in
       let n : r * r ≡ N → ⊥ = λ (f : r * r ≡ N). odd_square (r / 2) half (ap (λ (x : ℕ). x * x) (sym o) ∙ f ∙ e2) in
       up_to N G d D (pow_pos g) (units_of 53 (pat - 1) + units_of 53 pat) r (omega arith) (lt_of_le-ne b.0 n)
@@ -92,8 +92,8 @@ module _ (N g d r q half : ℕ) (D : 0 < d) (b : Between N r) (e2 : N ≡ 2 * ha
   upper zero z =
       let u : units_of 53 pat ≡ r * G = here ∙ ap (λ (x : ℕ). x * G) (omega arith) in
       let w : units_of 53 (pat + 1) ≡ suc (suc r) * G = ap (units_of 53) (after (suc g * 2 ^ 52) q) ∙ near (suc q) (omega arith) (omega arith) ∙ ap (λ (x : ℕ). x * G) (omega arith) in
-      let s = suc_mul r G in
-      let t = suc_mul (suc r) G in
+      let s = suc-mul r G in
+      let t = suc-mul (suc r) G in
       from N G d D (pow_pos g) (units_of 53 pat + units_of 53 (pat + 1)) (suc r) (omega arith) b.1
     where
       after : (a q : ℕ) → a + q + 1 ≡ a + suc q

@@ -1,7 +1,7 @@
 -- The pattern of the rounded root, by a root that has one digit more than an f64 keeps. Assumes nothing.
 use mathlib.Core.Path.{◌≡◌, refl, sym, ap, ◌∙◌, subst}
 use Prim.Native.Nat.{ℕ, zero, suc, ◌+◌, ◌-◌, ◌*◌, ◌/◌, ◌%◌, ◌^◌, ◌≤◌, ◌<◌, min, compare, zero-le}
-use native.Mathlib.Nat.{le_refl, le_trans, le_of_eq, lt_of_le_of_lt, lt_of_lt_of_le, lt_of_not-le, mul-one, mul_comm, mul_assoc, mul_left_comm, mul_right_comm, mul-le-mul_left, mul-le-mul_right, eq_of_mul-eq-mul_right, mul-pos, add-mul, mul-mul-mul_comm, mul-div_cancel, div-add-mod', mod-lt, min-eq_left, zero-lt-suc, suc_mul, pow-suc, zero-add}
+use native.Mathlib.Nat.{le_refl, le_trans, le_of_eq, lt_of_le_of_lt, lt_of_lt_of_le, lt_of_not-le, mul-one, mul_comm, mul_assoc, mul_left_comm, mul_right_comm, mul-le-mul_left, mul-le-mul_right, eq_of_mul-eq-mul_right, mul-pos, add-mul, mul-mul-mul_comm, mul-div_cancel, div-add-mod', mod-lt, min-eq_left, zero-lt-suc, suc-mul, pow-suc, zero-add}
 use native.Mathlib.Omega.{arith}
 use mathlib.Core.Bool.{Bool, true, false, cond}
 use lib.Dec.{T, eqb, eqb→eq}
@@ -77,7 +77,7 @@ size_root p g s a b =
     let w = div-add-mod' s (2 ^ g) in
     let l = mod-lt s (pow_pos g) in
     let lo : 2 ^ (p + g) ≤ s = le_trans (le_of_eq (pow-add 2 p g)) (le_trans (mul-le-mul_right (2 ^ g) a) (omega arith)) in
-    let hi : s < 2 ^ suc p * 2 ^ g = lt_of_lt_of_le (let x = suc_mul (s / 2 ^ g) (2 ^ g) in up w l x) (mul-le-mul_right (2 ^ g) b) in
+    let hi : s < 2 ^ suc p * 2 ^ g = lt_of_lt_of_le (let x = suc-mul (s / 2 ^ g) (2 ^ g) in up w l x) (mul-le-mul_right (2 ^ g) b) in
     size_is s (p + g) lo (lt_of_lt_of_le hi (le_of_eq (sym (pow-add 2 (suc p) g) ∙ ap (λ (x : ℕ). 2 ^ x) (move p g))))
   where
     up : s / 2 ^ g * 2 ^ g + s % 2 ^ g ≡ s → s % 2 ^ g < 2 ^ g → suc (s / 2 ^ g) * 2 ^ g ≡ s / 2 ^ g * 2 ^ g + 2 ^ g → s < suc (s / 2 ^ g) * 2 ^ g

@@ -1,7 +1,7 @@
 -- `lloyd_restart::start_restart` meets its contract: the matrix of the restart is a part of those lent. Assumes nothing.
 use mathlib.Core.Path.{◌≡◌, ap, ◌∙◌}
 use Prim.Native.Nat.{ℕ, suc, ◌≤◌, ◌<◌, ◌-◌, ◌+◌, ◌*◌}
-use native.Mathlib.Nat.{suc_mul}
+use native.Mathlib.Nat.{suc-mul}
 use native.Mathlib.Omega.{arith}
 use lib.ListN.{length, take, drop}
 use borrow.Author.Rules.{rules}
@@ -14,7 +14,7 @@ use Rattle.lloyd_restart.proofs.start_restart.Tie as tie
 last_matrix : (r size L : ℕ) → 0 < r → r * size ≤ L → (r - 1) * size + size ≤ L
 last_matrix r size L h l =
     let e : suc (r - 1) ≡ r = omega arith in
-    omega (arith, suc_mul (r - 1) size, ap (λ (z : ℕ). z * size) e)
+    omega (arith, suc-mul (r - 1) size, ap (λ (z : ℕ). z * size) e)
 
 whole : (from size : ℕ) → from + size - from ≡ size
 whole from size = omega arith

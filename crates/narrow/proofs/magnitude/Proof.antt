@@ -33,8 +33,8 @@ module _ {p E s e : ℕ} (n : Narrower p E) (w : Wide s e) where
   low l = mag_low p E s e (c_of p E) (53 - p) (c_of p E - e) 1074 reaches wide (omega arith) (omega arith)
 
   -- what is kept is small
-  kept_lt : (r : ℕ) → 53 - p ≤ r → closest s (2 ^ r) < 4294967296
-  kept_lt r g = lt_of_le_of_lt (closest_le p r s (lt_of_lt_of_le wide (pow_mono (omega arith)))) (lt_of_le_of_lt (pow_mono {i = p} {j = 24} (omega arith)) (lit< tt))
+  kept-lt : (r : ℕ) → 53 - p ≤ r → closest s (2 ^ r) < 4294967296
+  kept-lt r g = lt_of_le_of_lt (closest_le p r s (lt_of_lt_of_le wide (pow_mono (omega arith)))) (lt_of_le_of_lt (pow_mono {i = p} {j = 24} (omega arith)) (lit< tt))
 
   -- below half of the smallest value nothing is
   none : 54 < c_of p E - e → closest s (2 ^ (c_of p E - e)) ≡ 0
@@ -77,7 +77,7 @@ kept c = c.nearest.ensures ∙ ap (closest c.before.before.before.args.sig) c.be
 assemble-requires : tie.Need-assemble-requires
 assemble-requires c κs =
     let st = c.before.before.before in
-    (omega arith, omega arith, omega arith, omega arith, rw (kept c) (kept_lt st.requires.0 st.requires.1 (53 - st.args.p) (le_refl (53 - st.args.p))))
+    (omega arith, omega arith, omega arith, omega arith, rw (kept c) (kept-lt st.requires.0 st.requires.1 (53 - st.args.p) (le_refl (53 - st.args.p))))
 
 returns : tie.Need-returns
 returns c =
@@ -114,7 +114,7 @@ kept-2 c = c.nearest2.ensures ∙ ap (closest c.before.before.before.before.args
 assemble-requires-2 : tie.Need-assemble-requires-2
 assemble-requires-2 c κs =
     let st = c.before.before.before.before in
-    (omega arith, omega arith, omega arith, omega arith, rw (kept-2 c) (kept_lt st.requires.0 st.requires.1 (c_of st.args.p st.args.emax - st.args.e) (omega arith)))
+    (omega arith, omega arith, omega arith, omega arith, rw (kept-2 c) (kept-lt st.requires.0 st.requires.1 (c_of st.args.p st.args.emax - st.args.e) (omega arith)))
 
 returns-3 : tie.Need-returns-3
 returns-3 c =
