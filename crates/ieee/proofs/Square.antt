@@ -1,8 +1,7 @@
 -- The square of a difference does not hang on which of the two is taken from the other: of any floats. Assumes nothing.
-use Rattle.std.proofs.Common.{◌≡◌, ℕ, zero, suc, ◌+◌, ◌-◌, ◌*◌, ◌^◌, ◌<◌, ◌≤◌, Bool, true, false, cond, not, ◌&&◌, T, ltb, sym, refl, ap, ◌∙◌, mul_comm, add_comm, arith, ltb→lt, nltb→le}
-use lib.Ieee.{Float, nan, inf, fin, Format, binary64, prec, emax, low, unlike, up, down, odd, units, round, sum, neg, add, sub, mul}
+use Rattle.std.proofs.Common.{◌≡◌, ℕ, zero, suc, ◌+◌, ◌-◌, ◌*◌, ◌^◌, ◌<◌, ◌≤◌, Bool, true, false, cond, not, T, ltb, sym, refl, ap, ◌∙◌, mul_comm, add_comm, arith, ltb→lt, nltb→le}
+use lib.Ieee.{Float, nan, inf, fin, Format, prec, emax, low, unlike, up, down, odd, units, round, sum, neg, add, sub, mul}
 use lib.Ieee.Fits.{round_is}
-use Rattle.ieee.specs.Sum.{squared_difference}
 
 -- ---- the sign of what is squared does not count
 alike : (s t : Bool) → unlike s s ≡ unlike t t

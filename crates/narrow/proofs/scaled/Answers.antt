@@ -1,6 +1,6 @@
 -- `narrow::scaled` meets its contract: the product is exact, and the number that it is has one float in binary32.
 -- Assumes nothing.
-use Rattle.std.proofs.Common.{◌≡◌, ℕ, ◌+◌, ◌*◌, ◌%◌, ◌^◌, ◌<◌, Bool, false, not, T, pos, sym, refl, ap, ◌∙◌, subst, le_refl, lt_of_lt_of_le, arith, lit<, lit≤, le→leb, pow_pos, pow_mono, pow-add, shl_lt, rules, le-ltb}
+use Rattle.std.proofs.Common.{◌≡◌, ℕ, ◌+◌, ◌*◌, ◌%◌, ◌^◌, ◌<◌, Bool, false, not, T, pos, sym, refl, ap, ◌∙◌, subst, le_refl, lt_of_lt_of_le, arith, lit<, lit≤, le→leb, pow_pos, pow_mono, pow-add, shl_lt, le-ltb}
 use lib.Ieee.{binary32, of_int, of_bits, odd, mul, round, nan_bits, in_float}
 use lib.Ieee.Back.{round_whole}
 use lib.Ieee.Bits.{nan_bits_above}
@@ -10,8 +10,7 @@ use Rattle.narrow.specs.Format.{units_of}
 use Rattle.narrow.proofs.Exactly.{same_value, odd_shift, mul_value}
 use Rattle.narrow.proofs.ToNearest.{units_at}
 use Rattle.narrow.proofs.Unpacked.{of_bits_value}
-use Rattle.narrow.proofs.scaled.Statement.{statement}
-use Rattle.narrow.proofs.scaled.Tie as tie
+use Rattle.narrow.proofs.scaled.Goals as goal
 
 abbrev power : ℕ → ℕ
 power k = (k + 103) * 8388608
@@ -42,22 +41,12 @@ module _ (q k : ℕ) (Q : q < 2048) (K : k < 30) where
       (round_exact binary32 false w (2 ^ 149) q j (pow_pos 149) (omega arith) small refl) (odd_sign 11 false q j 149)
       ∙ odd_shift 11 false q k 24 125
 
-int-to-float-result : tie.Need-int-to-float-result
+pub int_to_float-result : goal.int_to_float-result
 unfolding in_float
-int-to-float-result c = le→leb c.before.args.q 16777216 (omega arith)
+int_to_float-result c = le→leb c.args.q 16777216 (omega arith)
 
-add-result : tie.Need-overflow-add-result
-add-result c = search rules
+pub float_from_bits-result : goal.float_from_bits-result
+float_from_bits-result c = subst (λ (b : Bool). T (not b)) (sym (no_nan_pattern c.args.q c.args.k (omega arith) (omega arith))) tt
 
-mul-result : tie.Need-overflow-mul-result
-mul-result c = search rules
-
-float-from-bits-result : tie.Need-float-from-bits-result
-float-from-bits-result c = subst (λ (b : Bool). T (not b)) (sym (no_nan_pattern c.before.args.q c.before.args.k (omega arith) (omega arith))) tt
-
-returns : tie.Need-returns
-returns c = product c.before.args.q c.before.args.k (omega arith) (omega arith)
-
-pub scaled_spec : {M : Type 1} → statement M
-scaled_spec =
-    tie.close (tie.spec int-to-float-result add-result mul-result float-from-bits-result returns)
+pub returns : goal.returns
+returns c = product c.args.q c.args.k (omega arith) (omega arith)
