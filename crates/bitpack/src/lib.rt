@@ -11,7 +11,7 @@ ghost use Rattle.bitpack.specs.Cursor.{ReaderAt, Pullable, PulledAt, WriterAt, P
 use error::{Checked, Refusal, names};
 
 // How many bytes a packing takes, or why there is none.
-#[derive(Drop)]
+#[derive(Clone, Copy)]
 pub enum Size {
     Bytes(u64),
     WidthUnfit,
@@ -19,7 +19,7 @@ pub enum Size {
 }
 
 // What a scan found: no index above the bound, or the first one that is.
-#[derive(Drop)]
+#[derive(Clone, Copy)]
 pub enum Scan {
     Clean,
     Offending(u32),
@@ -27,7 +27,7 @@ pub enum Scan {
 
 // A place in a packed byte string, made only by `new` and `pull`: `at` is the
 // next byte to read, `acc` the `have` bits that were read and not yet handed out.
-#[derive(Drop)]
+#[derive(Clone, Copy)]
 pub struct BitReader {
     at: usize,
     acc: u64,
@@ -35,7 +35,7 @@ pub struct BitReader {
 }
 
 // A value and the place after it.
-#[derive(Drop)]
+#[derive(Clone, Copy)]
 pub struct Pulled {
     pub value: u32,
     pub next: BitReader,
@@ -43,7 +43,7 @@ pub struct Pulled {
 
 // A place in a byte string that is being packed, made only by `new` and
 // `push`: `at` is the next byte to write, `acc` the `have` bits that await it.
-#[derive(Drop)]
+#[derive(Clone, Copy)]
 pub struct BitWriter {
     at: usize,
     acc: u64,

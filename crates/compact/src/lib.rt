@@ -13,14 +13,14 @@ use error::{Checked, Refusal, names};
 const HEADER_LENGTH: usize = 11;
 
 // A parsed header. The norm and the indices are parts of the bytes that it was parsed from: norm_part, index_part.
-#[derive(Drop)]
+#[derive(Clone, Copy)]
 pub struct CompactFrame {
     pub width: u8,
     pub block_count: u32,
     pub norm_len: u16,
 }
 
-#[derive(Drop)]
+#[derive(Clone, Copy)]
 pub enum Parsed {
     Frame(CompactFrame),
     Refused(Refusal),

@@ -176,7 +176,7 @@ fn count_four(four: FourChoices) -> usize
 }
 
 // The blocks passed: the writer after their indices, and for how many of them another codeword was as near.
-#[derive(Drop)]
+#[derive(Clone, Copy)]
 struct Blocks {
     writer: BitWriter,
     tied_blocks: usize,
@@ -335,7 +335,7 @@ fn write_code(
 
 // The answer of an encoding. The frame is written, and for so many of its blocks another codeword was as near as the one
 // chosen; or it is refused.
-#[derive(Drop)]
+#[derive(Clone, Copy)]
 pub enum Encoded {
     Written { tied_blocks: u32 },
     Refused(Refusal),

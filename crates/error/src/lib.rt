@@ -6,7 +6,7 @@
 pub mod names;
 
 // A refusal and the values that its row of the table names.
-#[derive(Drop)]
+#[derive(Clone, Copy)]
 pub enum Refusal {
     ZeroDimension,
     InvalidBlockDim {
@@ -51,7 +51,7 @@ pub enum Refusal {
 }
 
 // The answer of an entry point that returns nothing else.
-#[derive(Drop)]
+#[derive(Clone, Copy)]
 pub enum Checked {
     Accepted,
     Refused(Refusal),

@@ -25,7 +25,7 @@ pub fn put(
 }
 
 // A refusal's row of the table: its number and its values, of which there are two of each kind at most.
-#[derive(Drop)]
+#[derive(Clone, Copy)]
 struct Row {
     number: u32,
     first: u64,

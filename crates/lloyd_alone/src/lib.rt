@@ -14,21 +14,21 @@ use lloyd_search::{Choice, Found, Four};
 use slices::First;
 
 // The codeword found, and whether another has the same distance: the choice was a toss.
-#[derive(Drop)]
+#[derive(Clone, Copy)]
 pub struct Marked {
     pub found: Found,
     pub tied: bool,
 }
 
 // The answer of the search called alone.
-#[derive(Drop)]
+#[derive(Clone, Copy)]
 pub enum NearestCodeword {
     Nearest(Marked),
     Refused(Refusal),
 }
 
 // The answer of the mean error called alone.
-#[derive(Drop)]
+#[derive(Clone, Copy)]
 pub enum CodebookError {
     Mean(f64),
     Refused(Refusal),
@@ -45,7 +45,7 @@ const NEAR_LIMIT: f64 =
 const SMALL_LIMIT: f64 = 170141183460469231731687303715884105728.0;
 
 // What is kept of the codewords passed: the choice among them, and the sums of every fourth distance.
-#[derive(Drop)]
+#[derive(Clone, Copy)]
 struct Watched {
     best: Choice,
     sums: Four,
@@ -206,7 +206,7 @@ fn watch_fours(codewords: &[f64], count: usize, block: &[f64]) -> Watched
 }
 
 // What a search has seen: its choice, and whether every distance is known to be near, which is at most NEAR_LIMIT.
-#[derive(Drop)]
+#[derive(Clone, Copy)]
 struct Seen {
     best: Choice,
     near: bool,

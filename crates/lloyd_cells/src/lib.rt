@@ -13,7 +13,7 @@ ghost use Rattle.lloyd_cells.specs.Work.{places_at, Fit, gather_work, means_to, 
 use slices::First;
 
 // Where the parts of an update begin in the float work.
-#[derive(Drop)]
+#[derive(Clone, Copy)]
 pub struct Places {
     pub words: usize,
     pub distortions: usize,

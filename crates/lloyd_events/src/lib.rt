@@ -8,7 +8,7 @@ ghost use Rattle.lloyd_events.specs.Events.{zero_event};
 // One repair: the empty cell, the cell that it was split from, and the
 // numbers of the split. Laid out as C has it, for callers in other languages.
 #[repr(C)]
-#[derive(Drop)]
+#[derive(Clone, Copy)]
 pub struct LloydRepairEvent {
     pub restart: u32,
     pub iteration: u32,

@@ -30,14 +30,14 @@ use profile::FibQuantProfile;
 use slices::First;
 
 // Which codebook a refinement returns: the start, or the end of a restart.
-#[derive(Drop)]
+#[derive(Clone, Copy)]
 pub enum Winner {
     StartKept,
     Restart(u32),
 }
 
 // What a refinement found. It counts the repairs and the events that were written.
-#[derive(Drop)]
+#[derive(Clone, Copy)]
 pub struct LloydReport {
     pub restarts: u32,
     pub iterations: u32,
@@ -51,14 +51,14 @@ pub struct LloydReport {
 }
 
 // The answer of a refinement.
-#[derive(Drop)]
+#[derive(Clone, Copy)]
 pub enum Refinement {
     Report(LloydReport),
     Refused(Refusal),
 }
 
 // Which round a refinement stands in, and what it has found so far. With the work it can be stopped and taken up again.
-#[derive(Drop)]
+#[derive(Clone, Copy)]
 pub struct RefineState {
     pub restart: u32,
     pub iteration: u32,
@@ -75,7 +75,7 @@ pub struct RefineState {
 // Where a refinement stands: a repair was made and its event is to be written, or it has stopped with its answer.
 // Nothing reads its answer while it goes on, nor its event and
 // state once it has stopped with its answer: there they are free.
-#[derive(Drop)]
+#[derive(Clone, Copy)]
 pub struct RefineStep {
     pub going: bool,
     // Updating has begun, so that work and event slots are zeroed if it is refused.
@@ -86,7 +86,7 @@ pub struct RefineStep {
 }
 
 // A round is over, every cell having had its turn, and the step shows where; or the step itself.
-#[derive(Drop)]
+#[derive(Clone, Copy)]
 pub struct Pause {
     pub over: bool,
     pub step: RefineStep,

@@ -17,7 +17,7 @@ use slices::First;
 const LEAST_NORM: f64 = 2.220446049250313e-16;
 
 // Where the numbers of the cells' farthest samples begin, and in which of the two works.
-#[derive(Drop)]
+#[derive(Clone, Copy)]
 pub struct Numbers {
     pub start: usize,
     pub in_floats: bool,
@@ -25,7 +25,7 @@ pub struct Numbers {
 
 // What the repairs of an update are told: coordinates and cells, what
 // their events bear, free slots, and the slots that a refusal shows.
-#[derive(Drop)]
+#[derive(Clone, Copy)]
 pub struct RepairTerms {
     pub dim: usize,
     pub cells: usize,
@@ -36,7 +36,7 @@ pub struct RepairTerms {
 }
 
 // One turn: a repair and the cell whose turn is next, or no empty cell is left, or a refusal.
-#[derive(Drop)]
+#[derive(Clone, Copy)]
 pub enum Turn {
     Repair(LloydRepairEvent, usize),
     Done,

@@ -11,7 +11,7 @@ ghost use Rattle.lloyd_search.specs.Shape.{codebook_shaped, samples_shaped};
 use profile::FibQuantProfile;
 
 // A codeword's number and its distance.
-#[derive(Drop)]
+#[derive(Clone, Copy)]
 pub struct Found {
     pub index: usize,
     pub distance: f64,
@@ -19,7 +19,7 @@ pub struct Found {
 
 // What a search keeps: the codeword chosen, and the number of the last
 // that is as near, which is another's where the choice was a toss.
-#[derive(Drop)]
+#[derive(Clone, Copy)]
 pub struct Choice {
     pub found: Found,
     pub last: usize,
@@ -41,7 +41,7 @@ pub fn squared_distance(a: &[f64], b: &[f64]) -> f64
 }
 
 // Public only for the crates above: four distances.
-#[derive(Drop)]
+#[derive(Clone, Copy)]
 pub struct Four {
     pub first: f64,
     pub second: f64,

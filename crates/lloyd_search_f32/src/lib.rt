@@ -156,7 +156,7 @@ fn distances_of_four_f32(codeword: &[f32], a: &[f64], b: &[f64], c: &[f64], d: &
 }
 
 // The choices for four blocks.
-#[derive(Drop)]
+#[derive(Clone, Copy)]
 pub struct FourChoices {
     pub first: Choice,
     pub second: Choice,

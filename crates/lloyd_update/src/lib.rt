@@ -23,14 +23,14 @@ use profile::EmptyCellPolicy;
 use slices::First;
 
 // The answer of an update: how many cells were repaired.
-#[derive(Drop)]
+#[derive(Clone, Copy)]
 pub enum Updated {
     Repairs(u32),
     Refused(Refusal),
 }
 
 // What an update is told beside its slices.
-#[derive(Drop)]
+#[derive(Clone, Copy)]
 pub struct UpdateTerms {
     pub codebook_size: u64,
     pub block_dim: u64,
@@ -41,7 +41,7 @@ pub struct UpdateTerms {
 
 // Where an update stands: a repair was made and its event is to be written, or it has stopped with its answer.
 // Nothing reads its answer while it goes on, nor its event and next cell once it has stopped: there they are free.
-#[derive(Drop)]
+#[derive(Clone, Copy)]
 pub struct Step {
     pub going: bool,
     // Updating has begun, so that work and event slots are zeroed if it is refused.

@@ -7,7 +7,7 @@ ghost use Rattle.metrics.specs.Mse.{squared_error, mse_outcome, mean_error};
 use error::{Refusal, names};
 
 // The answer of `mse`.
-#[derive(Drop)]
+#[derive(Clone, Copy)]
 pub enum MeanError {
     Value(f64),
     Refused(Refusal),

@@ -8,14 +8,14 @@ ghost use Rattle.norm.specs.Norm.{above_zero, norm_bits, norm_value, bits_of, va
 use error::Refusal;
 
 // The answer of `encode_norm`: the pattern to write.
-#[derive(Drop)]
+#[derive(Clone, Copy)]
 pub enum NormBits {
     Bits(u16),
     Refused(Refusal),
 }
 
 // The answer of `decode_norm`: the value read.
-#[derive(Drop)]
+#[derive(Clone, Copy)]
 pub enum NormValue {
     Value(f64),
     Refused(Refusal),

@@ -47,6 +47,7 @@ pub fn named(field: u32, given: &[u8], expected: &[u8]) -> Checked
 }
 
 // Dimensions and codebook size.
+#[tactic(auto, unfolding(crate::specs::Checks::shape_of))]
 pub fn shape(d: u64, k: u64, n: u64) -> Checked
     ensures { checked result ≡ valid.shape_of d k n }
 {
@@ -241,6 +242,7 @@ pub fn methods(k: u32, radius: RadiusMethod, direction: DirectionMethod) -> Chec
 }
 
 // Restarts, iterations and training samples, of a codebook of n.
+#[tactic(auto, unfolding(crate::specs::Checks::settings_of))]
 pub fn settings(restarts: u32, iterations: u32, samples: u32, n: u32) -> Checked
     ensures { checked result ≡ valid.settings_of restarts iterations samples n }
 {

@@ -14,21 +14,21 @@ ghost use Rattle.profile.specs.Paper.{paper_profile, paper_of, profile_of, wire_
 use error::{Checked, Refusal, names};
 
 // How the norm of a vector is stored.
-#[derive(Drop)]
+#[derive(Clone, Copy)]
 pub enum NormFormat {
     Fp16Paper,
     F32Reference,
 }
 
 // Where training samples come from.
-#[derive(Drop)]
+#[derive(Clone, Copy)]
 pub enum SourceMode {
     CanonicalSphericalBeta,
     ReferenceGaussianProjection,
 }
 
 // How the radii of the initial codewords are chosen.
-#[derive(Drop)]
+#[derive(Clone, Copy)]
 pub enum RadiusMethod {
     BetaQuantile,
     K2ClosedForm,
@@ -36,7 +36,7 @@ pub enum RadiusMethod {
 }
 
 // How their directions are chosen.
-#[derive(Drop)]
+#[derive(Clone, Copy)]
 pub enum DirectionMethod {
     FibonacciSpiral,
     FibonacciSphere,
@@ -44,14 +44,14 @@ pub enum DirectionMethod {
 }
 
 // What an update does about a cell without samples.
-#[derive(Drop)]
+#[derive(Clone, Copy)]
 pub enum EmptyCellPolicy {
     SplitHighestDistortion,
     FailClosed,
 }
 
 // The strings that are tested, schema and rotation algorithm, are handed in beside it.
-#[derive(Drop)]
+#[derive(Clone, Copy)]
 pub struct FibQuantProfile {
     pub ambient_dim: u32,
     pub block_dim: u32,
@@ -71,25 +71,25 @@ pub struct FibQuantProfile {
     pub empty_cell_policy: EmptyCellPolicy,
 }
 
-#[derive(Drop)]
+#[derive(Clone, Copy)]
 pub enum PaperProfile {
     Built(FibQuantProfile),
     Refused(Refusal),
 }
 
-#[derive(Drop)]
+#[derive(Clone, Copy)]
 pub enum WireBits {
     Bits(u8),
     Refused(Refusal),
 }
 
-#[derive(Drop)]
+#[derive(Clone, Copy)]
 pub enum BlockCount {
     Blocks(u32),
     Refused(Refusal),
 }
 
-#[derive(Drop)]
+#[derive(Clone, Copy)]
 pub enum Samples {
     Count(u32),
     Refused(Refusal),
@@ -251,6 +251,7 @@ fn within_limits(samples: u64) -> u32
 }
 
 // The paper's profile, not checked.
+#[tactic(auto, unfolding(crate::specs::Paper::profile_of))]
 fn paper_fields(d: u32, k: u32, n: u32, seed: u64, log2: f64) -> FibQuantProfile
     ensures { result ≡ profile_of d k n seed log2 }
 {

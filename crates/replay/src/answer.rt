@@ -3,7 +3,7 @@ use crate::reader;
 use crate::reader::Reader;
 use error::{Checked, Refusal};
 
-#[derive(Drop)]
+#[derive(Clone, Copy)]
 pub struct Row {
     pub number: u64,
     pub first: u64,
@@ -11,14 +11,14 @@ pub struct Row {
 }
 
 // An answer as it was recorded, and the reader after it.
-#[derive(Drop)]
+#[derive(Clone, Copy)]
 pub struct Recorded {
     pub row: Row,
     pub next: Reader,
 }
 
 // Whether a record's answer came out, and the reader after the record.
-#[derive(Drop)]
+#[derive(Clone, Copy)]
 pub struct Verdict {
     pub same: bool,
     pub next: Reader,

@@ -1,14 +1,14 @@
 // Reading the recorded file. A reader is a place in it, and whether all that was read so far was there:
 // what is missing reads as 0, and only the end of a record asks.
 
-#[derive(Drop)]
+#[derive(Clone, Copy)]
 pub struct Reader {
     pub at: usize,
     pub good: bool,
 }
 
 // A number, and the reader after it.
-#[derive(Drop)]
+#[derive(Clone, Copy)]
 pub struct Got {
     pub value: u64,
     pub next: Reader,

@@ -45,7 +45,7 @@ fn root_pattern(sig: u64, h: u64) -> u64
     (h / 2 + 485) * 0x10_0000_0000_0000 + (r / 2 + r % 2)
 }
 
-#[derive(Drop)]
+#[derive(Clone, Copy)]
 struct Significand {
     sig: u64,
     h: u64,

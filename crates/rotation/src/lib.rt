@@ -152,7 +152,7 @@ fn dot(matrix: &[f64], input: &[f64], start: usize) -> f64
 }
 
 // The sums of eight rows that follow each other.
-#[derive(Drop)]
+#[derive(Clone, Copy)]
 struct EightSums {
     first: f64,
     second: f64,

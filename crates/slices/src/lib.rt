@@ -8,7 +8,7 @@ ghost use Rattle.ieee.specs.Sum.{plus_zero};
 ghost use Rattle.slices.specs.Limit.{within, first_outside, first_not_finite};
 
 // The first place at which something was found.
-#[derive(Drop)]
+#[derive(Clone, Copy)]
 pub enum First {
     Nowhere,
     At(usize),
