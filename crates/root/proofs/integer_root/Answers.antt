@@ -1,12 +1,12 @@
 -- `root::integer_root` meets its contract. The loop's invariant is `State`: the root and the rest of the digits passed.
 -- Assumes nothing.
 use mathlib.Core.Path.{subst}
-use mathlib.Core.Logic.{⊎_elim}
-use Prim.Native.Nat.{ℕ, ◌-◌, ◌≤◌, ◌<◌}
+use Prim.Native.Nat.{ℕ, ◌<◌}
 use native.Mathlib.Omega.{arith}
 use borrow.Author.Rules.{rules}
 use Rattle.root.proofs.Steps.{State, bounded, one_more, no_more, all_steps}
 use Rattle.root.proofs.integer_root.Goals as goal
+use Rattle.root.proofs.integer_root.Goals.{else-least-next, then-least-next}
 
 pub loop-step-init : goal.loop-step-init
 loop-step-init c = (omega arith, record { left = c.requires; rest = omega arith; small = omega arith; sum = omega arith })
@@ -39,10 +39,7 @@ pub loop-step-preserved : goal.loop-step-preserved
 loop-step-preserved c =
     let l = c in (
       search rules,
-      ⊎_elim
-          (λ w. rw (w.1, w.2) (one_more l.args.sig l.loop-step.digits l.loop-step.root l.loop-step.rest l.loop-step.step l.loop-step.invariant.1 (omega (arith, w.0.taken))))
-          (λ w. rw (w.1, w.2) (no_more l.args.sig l.loop-step.digits l.loop-step.root l.loop-step.rest l.loop-step.step l.loop-step.invariant.1 (omega (arith, w.0.left))))
-          c.if-least-next.branch,
+      elim c.if-least-next.branch [ then-least-next w ↦ rw (w.root-is, w.rest-is) (one_more l.args.sig l.loop-step.digits l.loop-step.root l.loop-step.rest l.loop-step.step l.loop-step.invariant.1 (omega (arith, w.if-least-next.true))) | else-least-next w ↦ rw (w.root-is, w.rest-is) (no_more l.args.sig l.loop-step.digits l.loop-step.root l.loop-step.rest l.loop-step.step l.loop-step.invariant.1 (omega (arith, w.if-least-next.false))) ],
     )
 
 pub returns : goal.returns

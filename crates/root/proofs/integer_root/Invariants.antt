@@ -1,9 +1,5 @@
-use mathlib.Core.Path.{subst}
-use mathlib.Core.Logic.{⊎_elim}
-use Prim.Native.Nat.{ℕ, ◌-◌, ◌≤◌, ◌<◌}
-use native.Mathlib.Omega.{arith}
-use borrow.Author.Rules.{rules}
-use Rattle.root.proofs.Steps.{State, bounded, one_more, no_more, all_steps}
+use Prim.Native.Nat.{◌-◌, ◌≤◌}
+use Rattle.root.proofs.Steps.{State}
 use Rattle.root.proofs.integer_root.Given as goal
 
 abbrev pub invariant-loop-step : goal.invariant-loop-step

@@ -1,9 +1,8 @@
 -- `root::normalized` meets its contract. The loop keeps sig * 2 ^ h; the measure is h. Assumes nothing.
 use mathlib.Core.Path.{◌≡◌, refl, sym, ap, ◌∙◌}
-use Prim.Native.Nat.{ℕ, ◌-◌, ◌*◌, ◌^◌, ◌≤◌, ◌<◌, suc, zero}
+use Prim.Native.Nat.{ℕ, ◌-◌, ◌*◌, ◌^◌, ◌<◌, suc, zero}
 use native.Mathlib.Nat.{mul_assoc, mul_comm, mul-one, pow-suc}
 use native.Mathlib.Omega.{arith}
-use borrow.Author.Rules.{rules}
 use Rattle.root.proofs.normalized.Goals as goal
 
 some : (t sig h : ℕ) → 0 < t → sig < 0x10000000000000 → sig * 2 ^ h ≡ t * 0x10000000000000 → 0 < h

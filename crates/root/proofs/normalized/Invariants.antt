@@ -1,8 +1,5 @@
-use mathlib.Core.Path.{◌≡◌, refl, sym, ap, ◌∙◌}
-use Prim.Native.Nat.{ℕ, ◌-◌, ◌*◌, ◌^◌, ◌≤◌, ◌<◌, suc, zero}
-use native.Mathlib.Nat.{mul_assoc, mul_comm, mul-one, pow-suc}
-use native.Mathlib.Omega.{arith}
-use borrow.Author.Rules.{rules}
+use mathlib.Core.Path.{◌≡◌}
+use Prim.Native.Nat.{◌*◌, ◌^◌, ◌≤◌, ◌<◌}
 use Rattle.root.proofs.normalized.Given as goal
 
 abbrev pub invariant-loop-sig : goal.invariant-loop-sig

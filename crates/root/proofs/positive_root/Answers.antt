@@ -6,7 +6,6 @@ use native.Mathlib.Omega.{arith}
 use lib.Pow.{pow-add, pow_pos}
 use lib.Ieee.{binary64, of_bits, to_bits}
 use lib.Ieee.Positive.{num, den, den_pos, value→cross, positive_of_value}
-use borrow.Author.Rules.{rules}
 use Rattle.root.specs.Sqrt.{sqrt_of, root_of}
 use Rattle.narrow.specs.Format.{units_of}
 use Rattle.root.proofs.Rounded.{root_of_same, positive_root}

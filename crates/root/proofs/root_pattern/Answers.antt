@@ -3,7 +3,6 @@ use mathlib.Core.Path.{refl}
 use Prim.Native.Nat.{◌*◌, ◌^◌}
 use native.Mathlib.Omega.{arith}
 use lib.Pow.{pow_pos}
-use borrow.Author.Rules.{rules}
 use Rattle.root.proofs.Rounded.{scaled_lt, root_is}
 use Rattle.root.proofs.root_pattern.Goals as goal
 

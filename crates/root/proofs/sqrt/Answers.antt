@@ -14,7 +14,6 @@ use Rattle.ieee.specs.Bounds.{NotNegative}
 use Rattle.narrow.proofs.PackLaw.{to_bits_at, equal_not_nan}
 use Rattle.root.specs.Sqrt.{sqrt_of}
 use Rattle.root.proofs.Bounds.{sqrt_fits, sqrt_no_nan}
-use borrow.Author.Rules.{rules}
 use Rattle.root.proofs.sqrt.Goals as goal
 
 -- ---- the values that are their own roots
@@ -115,7 +114,7 @@ no_payload u =
 
 pub float_from_bits-result : goal.float_from_bits-result
 float_from_bits-result c =
-    let u = c in
+    let u = c.before.before.before in
     let x = u.args.x in
     subst (λ (b : Bool). T (not b)) (sym (nan_bits_is binary64 c.positive_root.result ∙ ap is_nan (rooted c)))
     (sqrt_no_nan binary64 x (not_negative x (subst (Signed false) (back u) (bits_signed (to_bits binary64 x) false (lt-leb 0x8000000000000000 (to_bits binary64 x) (omega arith)))) (equal_not_nan x u.if-x.false)))
@@ -132,6 +131,6 @@ returns-then-b c = own_minus c.args.x (sym (back c.before.before.before.before) 
 pub returns : goal.returns
 unfolding div of_bits
 returns c =
-    let u = c in
+    let u = c.before.before.before.before in
     let x = u.args.x in
     sym (below_zero x (subst (Signed true) (back u) (bits_signed (to_bits binary64 x) true (le-leb 0x8000000000000000 (to_bits binary64 x) (omega (arith, no_payload u))))) c.if-b.false)
