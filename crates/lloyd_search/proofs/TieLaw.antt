@@ -1,8 +1,8 @@
 -- What the mark of a search means: the first and the last of the nearest are two exactly where another codeword has the
 -- distance that was found. Of any distances, also infinite ones and NaN. Assumes nothing.
-use mathlib.Core.Path.{◌≡◌, refl, sym, subst, ◌∙◌}
+use mathlib.Core.Path.{◌≡◌, refl, ◌∙◌}
 use Prim.Native.Nat.{ℕ, zero, suc, ◌<◌}
-use native.Mathlib.Nat.{le_step, lt-suc_self, zero-lt-suc}
+use native.Mathlib.Nat.{lt-suc_self, zero-lt-suc}
 use native.Mathlib.Omega.{arith}
 use mathlib.Core.Bool.{Bool, true, false, not, ◌&&◌, ◌||◌, cond}
 use lib.Dec.{T, T_not, not_T, eqb, eqb→eq}

@@ -1,0 +1,13 @@
+-- `ffi_profile::choices::direction_method_at` meets its contract: each answer follows from the tests on its way.
+-- Assumes nothing.
+use borrow.Author.Tests.{eq-eqb, ne_eqb}
+use Rattle.ffi_profile.proofs.choices.direction_method_at.Goals as goal
+
+pub returns-then-number-eq0 : goal.returns-then-number-eq0
+returns-then-number-eq0 c = simp (eq-eqb _ _ c.if-number-eq0.true)
+
+pub returns-then-number-eq1 : goal.returns-then-number-eq1
+returns-then-number-eq1 c = simp (ne_eqb _ _ c.if-number-eq0.false, eq-eqb _ _ c.if-number-eq1.true)
+
+pub returns : goal.returns
+returns c = simp (ne_eqb _ _ c.if-number-eq0.false, ne_eqb _ _ c.if-number-eq1.false)
