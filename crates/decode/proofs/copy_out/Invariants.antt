@@ -1,0 +1,17 @@
+use mathlib.Core.Path.{◌≡◌, refl, sym, ap, ◌∙◌}
+use mathlib.Core.List.{List}
+use Prim.Native.Nat.{ℕ, ◌+◌, ◌-◌, ◌≤◌}
+use native.Mathlib.Omega.{arith}
+use lib.ListN.{length, get_or, length-set}
+use lib.Ieee.{Float, nan}
+use borrow.Author.Rules.{rules}
+use Rattle.slices.specs.Lists.{patched, tabulate}
+use Rattle.slices.proofs.ListLaw.{patched_more, patched_all}
+use Rattle.decode.proofs.copy_out.Given as goal
+
+abbrev pub invariant-loop-i : goal.invariant-loop-i
+invariant-loop-i l =
+    (l.i ≤ l.d) × (l.d ≡ length l.initial.output) × (length l.output ≡ length l.initial.output) × (l.output ≡ patched l.initial.output 0 l.i (λ j. get_or l.work (length l.initial.output + j) nan))
+
+abbrev pub decreases-loop-i : goal.decreases-loop-i
+decreases-loop-i l = l.d - l.i

@@ -1,0 +1,29 @@
+use mathlib.Core.Path.{◌≡◌, refl, sym, ap, ◌∙◌}
+use mathlib.Core.Bool.{Bool, not}
+use mathlib.Core.List.{List}
+use Prim.Native.Nat.{ℕ, ◌+◌, ◌-◌, ◌≤◌}
+use native.Mathlib.Omega.{arith}
+use native.Mathlib.Numerals.{add-one}
+use lib.ListN.{length, get_or, length-set}
+use lib.Ieee.{Float, nan, binary32, binary64, mul}
+use lib.Ieee.Scale.{finite}
+use borrow.Author.Rules.{rules}
+use Rattle.slices.specs.declared.First.{First}
+use Rattle.slices.specs.First.{first_where, or_at}
+use Rattle.slices.specs.Lists.{patched}
+use Rattle.slices.proofs.ListLaw.{patched_more, patched_next}
+use Rattle.narrow.specs.Pack.{narrow_to}
+use Rattle.decode.proofs.scale.Given as goal
+
+abbrev pub scaled : Float → List Float → ℕ → ℕ → Float
+scaled norm work d i = narrow_to binary32 (mul binary64 (get_or work (d + i) nan) norm)
+
+abbrev pub fails : Float → List Float → ℕ → ℕ → Bool
+fails norm work d i = not (finite (scaled norm work d i))
+
+abbrev pub invariant-loop-i : goal.invariant-loop-i
+invariant-loop-i l =
+    (l.i ≤ l.d) × (length l.work ≡ l.d + l.d) × (l.bad ≡ first_where (fails l.norm l.initial.work l.d) l.i) × (l.work ≡ patched l.initial.work l.d l.i (scaled l.norm l.initial.work l.d))
+
+abbrev pub decreases-loop-i : goal.decreases-loop-i
+decreases-loop-i l = l.d - l.i
