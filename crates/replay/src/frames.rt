@@ -65,7 +65,7 @@ fn part(file: &[u8], r: Reader, found: &[u8]) -> Verdict {
     let mut expected = [0u8; 64];
     let end = reader::bytes(file, len.next, n, &mut expected);
     Verdict {
-        same: check::same(found, parts::bytes(&expected, n)),
+        same: same::slices(found, parts::bytes(&expected, n)),
         next: end,
     }
 }

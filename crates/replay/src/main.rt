@@ -14,11 +14,12 @@ mod reader;
 mod rotations;
 mod same;
 
-ghost use Rattle.std.specs.Prelude.{◌≡◌, length};
+ghost use Rattle.std.specs.Prelude.{◌≡◌, ◌≤◌, length, IfOk};
 
 use answer::Verdict;
-use libc::STDOUT_FILENO;
 use reader::Reader;
+use std::io;
+use std::io::Read;
 
 // One record of that kind.
 fn record(kind: u64, file: &[u8], r: Reader) -> Verdict {
@@ -45,7 +46,7 @@ fn record(kind: u64, file: &[u8], r: Reader) -> Verdict {
 fn count(counts: &mut [u64; 12], kind: u64) {
     if kind < 12 {
         let k = kind as usize;
-        counts[k] = std::num::wrapping_add_u64(counts[k], 1);
+        counts[k] = counts[k].wrapping_add(1);
     }
 }
 
@@ -73,29 +74,34 @@ fn replay(file: &[u8], start: usize, equal: &mut [u64; 12], different: &mut [u64
     true
 }
 
-fn line(name: &[u8], kind: usize, equal: &[u64; 12], different: &[u64; 12]) {
+fn line(
+    rt: &impl Print,
+    name: &str,
+    kind: usize,
+    equal: &[u64; 12],
+    different: &[u64; 12],
+) -> io::Result<()> {
     if kind < 12 {
-        io::write_all(STDOUT_FILENO, name);
-        io::write_all(STDOUT_FILENO, b": ");
-        io::print_decimal(STDOUT_FILENO, equal[kind]);
-        io::write_all(STDOUT_FILENO, b" equal, ");
-        io::print_decimal(STDOUT_FILENO, different[kind]);
-        io::write_all(STDOUT_FILENO, b" different\n");
+        println!(rt;
+            "{name}: {} equal, {} different",
+            equal[kind], different[kind]
+        )?;
     }
+    Ok(())
 }
 
-fn report(equal: &[u64; 12], different: &[u64; 12]) {
-    line(b"pack_indices", 1, equal, different);
-    line(b"unpack_indices", 2, equal, different);
-    line(b"wire_index_bits", 3, equal, different);
-    line(b"default_training_samples", 4, equal, different);
-    line(b"write_compact", 5, equal, different);
-    line(b"parse_compact", 6, equal, different);
-    line(b"mse", 7, equal, different);
-    line(b"apply", 8, equal, different);
-    line(b"apply_inverse", 9, equal, different);
-    line(b"nearest_index", 10, equal, different);
-    line(b"mse_for_codebook", 11, equal, different);
+fn report(rt: &impl Print, equal: &[u64; 12], different: &[u64; 12]) -> io::Result<()> {
+    line(rt, "pack_indices", 1, equal, different)?;
+    line(rt, "unpack_indices", 2, equal, different)?;
+    line(rt, "wire_index_bits", 3, equal, different)?;
+    line(rt, "default_training_samples", 4, equal, different)?;
+    line(rt, "write_compact", 5, equal, different)?;
+    line(rt, "parse_compact", 6, equal, different)?;
+    line(rt, "mse", 7, equal, different)?;
+    line(rt, "apply", 8, equal, different)?;
+    line(rt, "apply_inverse", 9, equal, different)?;
+    line(rt, "nearest_index", 10, equal, different)?;
+    line(rt, "mse_for_codebook", 11, equal, different)
 }
 
 // The reader after the first line, which has to be this one.
@@ -103,20 +109,20 @@ fn after_header(file: &[u8]) -> Reader {
     let header = b"fib-quant answers, format 1: crates/replay/README.md\n";
     let mut line = [0u8; 64];
     let next = reader::bytes(file, Reader { at: 0, good: true }, header.len(), &mut line);
-    if check::same(parts::bytes(&line, header.len()), header) {
+    if same::slices(parts::bytes(&line, header.len()), header) {
         return next;
     }
     reader::malformed(next)
 }
 
-fn run(file: &[u8]) {
+fn run(rt: &impl Print, file: &[u8]) -> io::Result<()> {
     let start = after_header(file);
     let mut equal = [0u64; 12];
     let mut different = [0u64; 12];
     if start.good && replay(file, start.at, &mut equal, &mut different) {
-        report(&equal, &different);
+        report(rt, &equal, &different)
     } else {
-        io::write_all(STDOUT_FILENO, b"malformed\n");
+        println!(rt; "malformed")
     }
 }
 
@@ -127,8 +133,23 @@ fn room() -> [u8; 131072]
     [0; 131072]
 }
 
-fn main() {
+// Reads until `buf` is full or the input ends, and gives how many bytes it put at the start of `buf`.
+fn read_full(input: &mut impl Read, buf: &mut [u8]) -> io::Result<usize>
+    ensures { IfOk result (λ n. n ≤ length buf.new) }
+{
+    let mut done = 0;
+    while done < buf.len() {
+        let n = input.read(&mut buf[done..])?;
+        if n == 0 {
+            break;
+        }
+        done += n;
+    }
+    Ok(done)
+}
+
+fn main(rt: HostRuntime) -> io::Result<()> {
     let mut buf = room();
-    let n = io::read_full(0, &mut buf);
-    run(&buf[..n]);
+    let n = read_full(&mut rt.reader(), &mut buf)?;
+    run(&rt, &buf[..n])
 }

@@ -1,7 +1,15 @@
 // Whole arrays compared. What lies past the values of a call holds a pattern before it and has to hold it after.
+ghost use Rattle.std.specs.Prelude.{◌≡◌, true};
+
+// Whether `a` and `b` hold the same bytes.
+pub fn slices(a: &[u8], b: &[u8]) -> bool
+    ensures { (result ≡ true → a.now ≡ b.now) × (a.now ≡ b.now → result ≡ true) }
+{
+    a == b
+}
 
 pub fn bytes(a: &[u8; 64], b: &[u8; 64]) -> bool {
-    check::same(a, b)
+    slices(a, b)
 }
 
 pub fn words(a: &[u32; 16], b: &[u32; 16]) -> bool {

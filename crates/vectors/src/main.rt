@@ -13,29 +13,31 @@ mod shapes;
 mod show;
 mod sums;
 
-fn main() {
-    conversions();
-    roots::ordinary();
-    roots::ends();
-    roots::special();
-    shapes::default_samples();
-    shapes::profiles_of_document();
-    shapes::profiles_refused();
-    shapes::profiles_at_limits();
-    sums::errors();
-    sums::rotations();
+use std::io;
+
+fn main(rt: HostRuntime) -> io::Result<()> {
+    conversions(&rt)?;
+    roots::ordinary(&rt)?;
+    roots::ends(&rt)?;
+    roots::special(&rt)?;
+    shapes::default_samples(&rt)?;
+    shapes::profiles_of_document(&rt)?;
+    shapes::profiles_refused(&rt)?;
+    shapes::profiles_at_limits(&rt)?;
+    sums::errors(&rt)?;
+    sums::rotations(&rt)
 }
 
-fn conversions() {
-    narrowing::to_binary32_near_one();
-    narrowing::to_binary32_overflow();
-    narrowing::to_binary32_underflow();
-    narrowing::to_binary32_special();
-    narrowing::to_binary16_near_one();
-    narrowing::to_binary16_overflow();
-    narrowing::to_binary16_underflow();
-    narrowing::to_binary16_special();
-    narrowing::from_binary16();
-    narrowing::from_binary16_special();
-    narrowing::norms();
+fn conversions(rt: &impl Print) -> io::Result<()> {
+    narrowing::to_binary32_near_one(rt)?;
+    narrowing::to_binary32_overflow(rt)?;
+    narrowing::to_binary32_underflow(rt)?;
+    narrowing::to_binary32_special(rt)?;
+    narrowing::to_binary16_near_one(rt)?;
+    narrowing::to_binary16_overflow(rt)?;
+    narrowing::to_binary16_underflow(rt)?;
+    narrowing::to_binary16_special(rt)?;
+    narrowing::from_binary16(rt)?;
+    narrowing::from_binary16_special(rt)?;
+    narrowing::norms(rt)
 }
