@@ -1,0 +1,6 @@
+-- Each record leaves less of the file.
+use Rattle.std.proofs.Common.{length, ◌-◌}
+use Rattle.replay.proofs.replay.Given as goal
+
+abbrev pub decreases-loop-at : goal.decreases-loop-at
+decreases-loop-at l = length l.file - l.at
