@@ -1,15 +1,15 @@
 -- A buffer that is filled part after part, and its first half; a search that sees its tests only. Assumes nothing.
 use mathlib.Core.Path.{◌≡◌, refl, sym, ap, ◌∙◌}
-use Prim.Native.Nat.{ℕ, zero, suc, ◌+◌, ◌*◌, ◌/◌, ◌%◌, ◌≤◌, ◌<◌}
+use Prim.Native.Nat.{ℕ, zero, suc, ◌+◌, ◌≤◌, ◌<◌}
 use native.Mathlib.Nat.{add-suc, zero-add, add-zero, le_trans, le-suc}
 use native.Mathlib.Omega.{arith}
 use mathlib.Core.Bool.{Bool}
-use mathlib.Core.List.{List, ◌++◌}
-use lib.ListN.{length, get_or, take, drop, length-append, get_or-append}
-use lib.Seq.{ext_get_or, get_or-take, length-take-le, get_or-append-add}
+use mathlib.Core.List.{List}
+use lib.ListN.{length, get_or, take}
+use lib.Seq.{ext_get_or, get_or-take, length-take-le}
 use Rattle.slices.specs.First.{first_where}
 use Rattle.slices.specs.Lists.{tabulate, patched}
-use Rattle.slices.proofs.ListLaw.{length-patched, patched_inside, patched_below}
+use Rattle.slices.proofs.ListLaw.{length-patched, patched_inside}
 use Rattle.slices.proofs.TabulateLaw.{length-tabulate, get_d_tabulate}
 
 pub first_where_ext : (t u : ℕ → Bool) (n : ℕ) → ((i : ℕ) → i < n → t i ≡ u i) → first_where t n ≡ first_where u n

@@ -1,5 +1,5 @@
 -- A whole number held as a float comes back as it was. Assumes nothing.
-use Rattle.std.proofs.Common.{◌≡◌, ℕ, ◌+◌, ◌-◌, ◌*◌, ◌/◌, ◌^◌, ◌<◌, ◌≤◌, min, Bool, true, false, cond, T, ℤ, pos, sym, refl, ap, ◌∙◌, subst, true≢false, lt_of_lt_of_le, le_of_lt, mul-lt-mul_of_pos_right, mul-one, mul-div_cancel, arith, lit<, lit≤, lt→ltb, pow_mono}
+use Rattle.std.proofs.Common.{◌≡◌, ℕ, ◌+◌, ◌-◌, ◌*◌, ◌/◌, ◌^◌, ◌<◌, min, true, false, T, pos, sym, ap, ◌∙◌, true≢false, lt_of_lt_of_le, le_of_lt, mul-lt-mul_of_pos_right, mul-one, mul-div_cancel, arith, lit≤, lt→ltb}
 use native.Mathlib.Nat.{min-eq_left}
 use lib.Ieee.{Float, nan, inf, fin, binary64, up, down, lt, of_int, to_unsigned}
 use lib.Ieee.Fits.{down_pos}

@@ -1,5 +1,5 @@
 -- What the turns of the cells come to, from one empty cell to the next. Assumes nothing.
-use Rattle.std.proofs.Common.{◌≡◌, ℕ, zero, suc, ◌+◌, ◌<◌, ◌≤◌, Bool, true, false, cond, leb, List, [], ◌∷◌, ◌++◌, length, ap, ◌∙◌, subst, inl, inr, le_trans, le_of_suc-le-suc, eq-or-lt_of_le, arith, eq-eqb, ne_eqb}
+use Rattle.std.proofs.Common.{◌≡◌, ℕ, zero, suc, ◌<◌, ◌≤◌, Bool, true, false, cond, leb, List, [], ◌∷◌, ◌++◌, length, ap, ◌∙◌, subst, inl, inr, le_trans, le_of_suc-le-suc, eq-or-lt_of_le, arith, eq-eqb, ne_eqb}
 use native.Mathlib.Nat.{le-suc}
 use lib.Ieee.{Float, le}
 use Rattle.error.specs.Numbers.{Outcome, completed, refused, and_then, Value, whole}

@@ -1,7 +1,7 @@
 -- `decode::check_indices` meets its contract: header, padding, indices. Assumes nothing.
-use mathlib.Core.Path.{◌≡◌, refl, sym, ap, ◌∙◌}
+use mathlib.Core.Path.{◌≡◌, sym, ap, ◌∙◌}
 use mathlib.Core.List.{List}
-use Prim.Native.Nat.{ℕ, ◌*◌, ◌≤◌, ◌<◌}
+use Prim.Native.Nat.{ℕ, ◌*◌, ◌≤◌}
 use native.Mathlib.Nat.{mul-le-mul}
 use native.Mathlib.Omega.{arith}
 use lib.ListN.{length}
@@ -10,7 +10,6 @@ use Rattle.compact.specs.Frame.{parts_of}
 use Rattle.compact.proofs.FrameLaws.{length_indices}
 use Rattle.decode.specs.Decode.{below}
 use Rattle.decode.proofs.CheckLaw.{other_width, other_count, padded, clear}
-use borrow.Author.Rules.{rules}
 use Rattle.decode.proofs.check_indices.Goals as goal
 
 pub returns-then-width-bits : goal.returns-then-width-bits
@@ -33,8 +32,8 @@ overflow_mul-count c =
 pub padding-spare-requires : goal.padding-spare-requires
 padding-spare-requires c =
     let sized : let a = c.args in length c.index_part-indices.result.now ≡ bytes_for (a.frame.block_count * a.frame.width) =
-        let s = c in
-            ap length c.index_part-indices.ensures ∙ length_indices s.args.bytes.now (parts_of s.args.bytes.now s.args.frame) s.requires.1 in
+    let s = c in
+    ap length c.index_part-indices.ensures ∙ length_indices s.args.bytes.now (parts_of s.args.bytes.now s.args.frame) s.requires.1 in
     sized
 
 pub returns-then-spare-ne0 : goal.returns-then-spare-ne0
@@ -47,8 +46,8 @@ returns-then-spare-ne0 c =
 pub check_below-requires : goal.check_below-requires
 check_below-requires c =
     let sized : let a = c.args in length c.index_part-indices.result.now ≡ bytes_for (a.frame.block_count * a.frame.width) =
-        let s = c in
-            ap length c.index_part-indices.ensures ∙ length_indices s.args.bytes.now (parts_of s.args.bytes.now s.args.frame) s.requires.1 in
+    let s = c in
+    ap length c.index_part-indices.ensures ∙ length_indices s.args.bytes.now (parts_of s.args.bytes.now s.args.frame) s.requires.1 in
     let i = c in
     (omega (arith, i.requires.0, i.if-width-bits.false), omega (arith, sized))
 

@@ -1,7 +1,6 @@
 -- `decode::check_lengths` meets its contract: the lengths in the order of the slices. Assumes nothing.
 use native.Mathlib.Nat.{mul-le-mul}
 use native.Mathlib.Omega.{arith}
-use borrow.Author.Rules.{rules}
 use borrow.Author.Tests.{eq-eqb, ne_eqb}
 use Rattle.decode.proofs.check_lengths.Goals as goal
 

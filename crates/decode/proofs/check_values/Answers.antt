@@ -1,7 +1,5 @@
 -- `decode::check_values` meets its contract: the codewords, then the matrix. Assumes nothing.
-use mathlib.Core.Path.{◌≡◌, sym, ◌∙◌}
 use lib.Ieee.{of_bits}
-use borrow.Author.Rules.{rules}
 use Rattle.decode.specs.Decode.{values}
 use Rattle.decode.proofs.check_values.Goals as goal
 

@@ -1,12 +1,10 @@
 -- `decode::copy_out` meets its contract: the values passed are copied, and binary32 holds each of them. Assumes nothing.
-use mathlib.Core.Path.{◌≡◌, refl, sym, ap, ◌∙◌}
-use mathlib.Core.List.{List}
-use Prim.Native.Nat.{ℕ, ◌+◌, ◌-◌, ◌≤◌}
+use mathlib.Core.Path.{◌≡◌, refl, ap, ◌∙◌}
+use Prim.Native.Nat.{ℕ, ◌+◌}
 use native.Mathlib.Omega.{arith}
 use lib.ListN.{length, get_or, length-set}
 use lib.Ieee.{Float, nan}
-use borrow.Author.Rules.{rules}
-use Rattle.slices.specs.Lists.{patched, tabulate}
+use Rattle.slices.specs.Lists.{patched}
 use Rattle.slices.proofs.ListLaw.{patched_more, patched_all}
 use Rattle.decode.proofs.copy_out.Goals as goal
 

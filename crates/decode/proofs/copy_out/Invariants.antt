@@ -1,12 +1,8 @@
-use mathlib.Core.Path.{◌≡◌, refl, sym, ap, ◌∙◌}
-use mathlib.Core.List.{List}
-use Prim.Native.Nat.{ℕ, ◌+◌, ◌-◌, ◌≤◌}
-use native.Mathlib.Omega.{arith}
-use lib.ListN.{length, get_or, length-set}
-use lib.Ieee.{Float, nan}
-use borrow.Author.Rules.{rules}
-use Rattle.slices.specs.Lists.{patched, tabulate}
-use Rattle.slices.proofs.ListLaw.{patched_more, patched_all}
+use mathlib.Core.Path.{◌≡◌}
+use Prim.Native.Nat.{◌+◌, ◌-◌, ◌≤◌}
+use lib.ListN.{length, get_or}
+use lib.Ieee.{nan}
+use Rattle.slices.specs.Lists.{patched}
 use Rattle.decode.proofs.copy_out.Given as goal
 
 abbrev pub invariant-loop-i : goal.invariant-loop-i

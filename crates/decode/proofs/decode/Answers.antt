@@ -17,7 +17,6 @@ use Rattle.decode.specs.Decode.{DecodeCall, decode_call, decoded, only_finite, r
 use Rattle.decode.specs.Work.{Reconstructible}
 use Rattle.decode.proofs.CheckLaw.{parse_refused, read_refused, decoding_is, decodable_is}
 use Rattle.decode.proofs.AcceptLaw.{Readable, readable_accepted}
-use borrow.Author.Rules.{rules}
 use Rattle.decode.proofs.decode.Goals as goal
 
 -- what the work asks follows from the checks
@@ -42,47 +41,47 @@ workable c f indices e parse r =
 pub read_code-code-requires : goal.read_code-code-requires
 read_code-code-requires c =
     let frame-of : CompactFrame =
-        c.in-Frame.frame in
+    c.in-Frame.frame in
     let parts-of : Parts =
-        parts_of c.args.bytes.now (frame-of) in
+    parts_of c.args.bytes.now (frame-of) in
     let parses : parsed c.args.bytes.now ≡ completed (parts-of) =
-        sym c.parse_compact-parsed.ensures.result_value ∙ ap (outcome_of c.args.bytes.now) c.in-Frame.is in
+    sym c.parse_compact-parsed.ensures.result_value ∙ ap (outcome_of c.args.bytes.now) c.in-Frame.is in
     parses
 
 pub overflow_cast-k : goal.overflow_cast-k
 overflow_cast-k c =
     let call-of : DecodeCall =
-        let a = c.args in
-            decode_call a.profile a.schema.now a.rotation_algorithm.now a.log2 a.matrix.now a.codewords.now a.bytes.now (length a.output.now) (length a.work.now) in
+    let a = c.args in
+    decode_call a.profile a.schema.now a.rotation_algorithm.now a.log2 a.matrix.now a.codewords.now a.bytes.now (length a.output.now) (length a.work.now) in
     let frame-of : CompactFrame =
-        c.in-Frame.frame in
+    c.in-Frame.frame in
     let parts-of : Parts =
-        parts_of c.args.bytes.now (frame-of) in
+    parts_of c.args.bytes.now (frame-of) in
     let norm-of : Float =
-        c.in-Value.norm in
+    c.in-Value.norm in
     let reads : readable (call-of) (parts-of) ≡ completed (norm-of) =
-        sym c.read_code-code.ensures ∙ ap value_of c.in-Value.is in
+    sym c.read_code-code.ensures ∙ ap value_of c.in-Value.is in
     let passes : Readable (call-of) (parts-of) =
-        readable_accepted (call-of) (parts-of) (norm-of) (reads) in
+    readable_accepted (call-of) (parts-of) (norm-of) (reads) in
     record { fits = let k = (passes).valid.shape.block_most in omega arith }
 
 pub reconstruct-requires : goal.reconstruct-requires
 reconstruct-requires c =
     let call-of : DecodeCall =
-        let a = c.args in
-            decode_call a.profile a.schema.now a.rotation_algorithm.now a.log2 a.matrix.now a.codewords.now a.bytes.now (length a.output.now) (length a.work.now) in
+    let a = c.args in
+    decode_call a.profile a.schema.now a.rotation_algorithm.now a.log2 a.matrix.now a.codewords.now a.bytes.now (length a.output.now) (length a.work.now) in
     let frame-of : CompactFrame =
-        c.in-Frame.frame in
+    c.in-Frame.frame in
     let parts-of : Parts =
-        parts_of c.args.bytes.now (frame-of) in
+    parts_of c.args.bytes.now (frame-of) in
     let parses : parsed c.args.bytes.now ≡ completed (parts-of) =
-        sym c.parse_compact-parsed.ensures.result_value ∙ ap (outcome_of c.args.bytes.now) c.in-Frame.is in
+    sym c.parse_compact-parsed.ensures.result_value ∙ ap (outcome_of c.args.bytes.now) c.in-Frame.is in
     let norm-of : Float =
-        c.in-Value.norm in
+    c.in-Value.norm in
     let reads : readable (call-of) (parts-of) ≡ completed (norm-of) =
-        sym c.read_code-code.ensures ∙ ap value_of c.in-Value.is in
+    sym c.read_code-code.ensures ∙ ap value_of c.in-Value.is in
     let passes : Readable (call-of) (parts-of) =
-        readable_accepted (call-of) (parts-of) (norm-of) (reads) in
+    readable_accepted (call-of) (parts-of) (norm-of) (reads) in
     let i = c in
     let t = i in
     workable (call-of) (frame-of) i.index_part-indices.result.now i.index_part-indices.ensures (parses) (passes)
@@ -90,10 +89,10 @@ reconstruct-requires c =
 pub returns-in-Refused : goal.returns-in-Refused
 returns-in-Refused c =
     let call-of : DecodeCall =
-        let a = c.args in
-            decode_call a.profile a.schema.now a.rotation_algorithm.now a.log2 a.matrix.now a.codewords.now a.bytes.now (length a.output.now) (length a.work.now) in
+    let a = c.args in
+    decode_call a.profile a.schema.now a.rotation_algorithm.now a.log2 a.matrix.now a.codewords.now a.bytes.now (length a.output.now) (length a.work.now) in
     let zeros : List Float =
-        replicate (length c.args.work.now) plus_zero in
+    replicate (length c.args.work.now) plus_zero in
     let s = c in
     parse_refused (call-of) c.in-Refused.refusal s.args.output.now (zeros) s.args.work.now
     (sym c.parse_compact-parsed.ensures.result_value ∙ ap (outcome_of s.args.bytes.now) c.in-Refused.is)
@@ -101,16 +100,16 @@ returns-in-Refused c =
 pub returns-in-Refused-code : goal.returns-in-Refused-code
 returns-in-Refused-code c =
     let call-of : DecodeCall =
-        let a = c.args in
-            decode_call a.profile a.schema.now a.rotation_algorithm.now a.log2 a.matrix.now a.codewords.now a.bytes.now (length a.output.now) (length a.work.now) in
+    let a = c.args in
+    decode_call a.profile a.schema.now a.rotation_algorithm.now a.log2 a.matrix.now a.codewords.now a.bytes.now (length a.output.now) (length a.work.now) in
     let zeros : List Float =
-        replicate (length c.args.work.now) plus_zero in
+    replicate (length c.args.work.now) plus_zero in
     let frame-of : CompactFrame =
-        c.in-Frame.frame in
+    c.in-Frame.frame in
     let parts-of : Parts =
-        parts_of c.args.bytes.now (frame-of) in
+    parts_of c.args.bytes.now (frame-of) in
     let parses : parsed c.args.bytes.now ≡ completed (parts-of) =
-        sym c.parse_compact-parsed.ensures.result_value ∙ ap (outcome_of c.args.bytes.now) c.in-Frame.is in
+    sym c.parse_compact-parsed.ensures.result_value ∙ ap (outcome_of c.args.bytes.now) c.in-Frame.is in
     let t = c in
     let s = t in
     read_refused (call-of) c.in-Refused-code.refusal s.args.output.now (zeros) s.args.work.now (parts-of) (parses)
@@ -119,22 +118,22 @@ returns-in-Refused-code c =
 pub returns-in-Value : goal.returns-in-Value
 returns-in-Value c =
     let call-of : DecodeCall =
-        let a = c.args in
-            decode_call a.profile a.schema.now a.rotation_algorithm.now a.log2 a.matrix.now a.codewords.now a.bytes.now (length a.output.now) (length a.work.now) in
+    let a = c.args in
+    decode_call a.profile a.schema.now a.rotation_algorithm.now a.log2 a.matrix.now a.codewords.now a.bytes.now (length a.output.now) (length a.work.now) in
     let frame-of : CompactFrame =
-        c.in-Frame.frame in
+    c.in-Frame.frame in
     let norm-of : Float =
-        c.in-Value.norm in
+    c.in-Value.norm in
     let parts-of : Parts =
-        parts_of c.args.bytes.now (frame-of) in
+    parts_of c.args.bytes.now (frame-of) in
     let reads : readable (call-of) (parts-of) ≡ completed (norm-of) =
-        sym c.read_code-code.ensures ∙ ap value_of c.in-Value.is in
+    sym c.read_code-code.ensures ∙ ap value_of c.in-Value.is in
     let passes : Readable (call-of) (parts-of) =
-        readable_accepted (call-of) (parts-of) (norm-of) (reads) in
+    readable_accepted (call-of) (parts-of) (norm-of) (reads) in
     let parses : parsed c.args.bytes.now ≡ completed (parts-of) =
-        sym c.parse_compact-parsed.ensures.result_value ∙ ap (outcome_of c.args.bytes.now) c.in-Frame.is in
+    sym c.parse_compact-parsed.ensures.result_value ∙ ap (outcome_of c.args.bytes.now) c.in-Frame.is in
     let zeros : List Float =
-        replicate (length c.args.work.now) plus_zero in
+    replicate (length c.args.work.now) plus_zero in
     let i = c in
     let t = i in
     let a = t.args in

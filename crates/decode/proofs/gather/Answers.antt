@@ -2,15 +2,13 @@
 -- indices passed stand in the work. Assumes nothing.
 use mathlib.Core.Path.{◌≡◌, refl, sym, ap, ◌∙◌}
 use mathlib.Core.List.{List}
-use Prim.Native.Nat.{ℕ, ◌+◌, ◌*◌, ◌-◌, ◌≤◌, ◌<◌}
-use native.Mathlib.Nat.{zero-mul, mul-le-mul_right}
+use Prim.Native.Nat.{ℕ, ◌+◌, ◌*◌, ◌≤◌}
+use native.Mathlib.Nat.{zero-mul}
 use native.Mathlib.Omega.{arith}
 use lib.ListN.{length, get_or}
 use lib.Ieee.{Float, nan}
-use borrow.Author.Rules.{rules}
 use Rattle.slices.specs.Lists.{patched}
 use Rattle.bitpack.specs.Layout.{index_at, unpacked_indices}
-use Rattle.bitpack.specs.Cursor.{ReaderAt}
 use Rattle.bitpack.proofs.Packing.{unpacked_index}
 use Rattle.bitpack.proofs.Steps.{pullable, next_place, next_within}
 use Rattle.decode.specs.Decode.{rotated_at}
@@ -40,38 +38,38 @@ pull-pulled-requires c =
 pub overflow_mul-index : goal.overflow_mul-index
 overflow_mul-index c =
     let index : let s = c in c.pull-pulled.result.value ≡ index_at s.args.indices.now s.args.width c.loop-i.i =
-        let l = c in
-            (c.pull-pulled.ensures (l.loop-i.i * l.args.width) l.loop-i.invariant.4).value in
+    let l = c in
+    (c.pull-pulled.ensures (l.loop-i.i * l.args.width) l.loop-i.invariant.4).value in
     let within : let s = c in c.pull-pulled.result.value * s.args.k + s.args.k ≤ length s.args.codewords.now =
-        let s = c in
-            rw (index) (s.requires.3 c.loop-i.i (omega arith)) in
+    let s = c in
+    rw (index) (s.requires.3 c.loop-i.i (omega arith)) in
     record { fits = omega (arith, within) }
 
 pub widen_row-requires : goal.widen_row-requires
 widen_row-requires c =
     let index : let s = c in c.pull-pulled.result.value ≡ index_at s.args.indices.now s.args.width c.loop-i.i =
-        let l = c in
-            (c.pull-pulled.ensures (l.loop-i.i * l.args.width) l.loop-i.invariant.4).value in
+    let l = c in
+    (c.pull-pulled.ensures (l.loop-i.i * l.args.width) l.loop-i.invariant.4).value in
     let within : let s = c in c.pull-pulled.result.value * s.args.k + s.args.k ≤ length s.args.codewords.now =
-        let s = c in
-            rw (index) (s.requires.3 c.loop-i.i (omega arith)) in
+    let s = c in
+    rw (index) (s.requires.3 c.loop-i.i (omega arith)) in
     let room : let s = c in c.loop-i.at + s.args.k ≤ length s.args.work.now =
-        let s = c in
-            omega (arith, c.loop-i.invariant.1, s.requires.2, next_within c.loop-i.i s.args.count s.args.k (omega arith)) in
+    let s = c in
+    omega (arith, c.loop-i.invariant.1, s.requires.2, next_within c.loop-i.i s.args.count s.args.k (omega arith)) in
     (within, omega (arith, room, c.loop-i.invariant.2))
 
 pub overflow_add-at : goal.overflow_add-at
 overflow_add-at c =
     let room : let s = c in c.loop-i.at + s.args.k ≤ length s.args.work.now =
-        let s = c in
-            omega (arith, c.loop-i.invariant.1, s.requires.2, next_within c.loop-i.i s.args.count s.args.k (omega arith)) in
+    let s = c in
+    omega (arith, c.loop-i.invariant.1, s.requires.2, next_within c.loop-i.i s.args.count s.args.k (omega arith)) in
     record { fits = omega (arith, room) }
 
 pub loop-i-preserved : goal.loop-i-preserved
 loop-i-preserved c =
     let index : let s = c in c.pull-pulled.result.value ≡ index_at s.args.indices.now s.args.width c.loop-i.i =
-        let l = c in
-            (c.pull-pulled.ensures (l.loop-i.i * l.args.width) l.loop-i.invariant.4).value in
+    let l = c in
+    (c.pull-pulled.ensures (l.loop-i.i * l.args.width) l.loop-i.invariant.4).value in
     let w = c in
     let p = w in
     let l = p in

@@ -1,19 +1,10 @@
-use mathlib.Core.Path.{◌≡◌, refl, sym, ap, ◌∙◌}
-use mathlib.Core.List.{List}
-use Prim.Native.Nat.{ℕ, ◌+◌, ◌*◌, ◌-◌, ◌≤◌, ◌<◌}
-use native.Mathlib.Nat.{zero-mul, mul-le-mul_right}
-use native.Mathlib.Omega.{arith}
-use lib.ListN.{length, get_or}
-use lib.Ieee.{Float, nan}
-use borrow.Author.Rules.{rules}
+use mathlib.Core.Path.{◌≡◌}
+use Prim.Native.Nat.{◌*◌, ◌-◌, ◌≤◌}
+use lib.ListN.{length}
 use Rattle.slices.specs.Lists.{patched}
-use Rattle.bitpack.specs.Layout.{index_at, unpacked_indices}
+use Rattle.bitpack.specs.Layout.{unpacked_indices}
 use Rattle.bitpack.specs.Cursor.{ReaderAt}
-use Rattle.bitpack.proofs.Packing.{unpacked_index}
-use Rattle.bitpack.proofs.Steps.{pullable, next_place, next_within}
 use Rattle.decode.specs.Decode.{rotated_at}
-use Rattle.decode.proofs.ListLaw.{patched_then}
-use Rattle.decode.proofs.DecodeLaw.{rotated_row}
 use Rattle.decode.proofs.gather.Given as goal
 
 abbrev pub invariant-loop-i : goal.invariant-loop-i

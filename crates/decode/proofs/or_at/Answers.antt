@@ -1,6 +1,4 @@
 -- `decode::or_at` meets its contract, case by case. Assumes nothing.
-use mathlib.Core.Path.{ap}
-use borrow.Author.Rules.{rules}
 use Rattle.decode.proofs.or_at.Goals as goal
 
 pub returns-in-At : goal.returns-in-At

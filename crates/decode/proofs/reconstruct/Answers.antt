@@ -12,7 +12,6 @@ use Rattle.bitpack.specs.Layout.{unpacked_indices}
 use Rattle.slices.specs.Limit.{first_not_finite}
 use Rattle.decode.specs.Decode.{decoded, only_finite}
 use Rattle.decode.proofs.ValueLaw.{first_bad, copied, copyable}
-use borrow.Author.Rules.{rules}
 use Rattle.decode.proofs.reconstruct.Goals as goal
 
 -- the two answers
@@ -28,14 +27,14 @@ zeroed n m l h e = h ∙ ap (λ (z : ℕ). replicate z plus_zero) e
 pub returns-in-At : goal.returns-in-At
 returns-in-At c =
     let asked : List Float =
-        let s = c in decoded (length s.args.output.now) s.args.k s.args.matrix.now s.args.codewords.now (unpacked_indices s.args.indices.now s.args.count s.args.width) s.args.norm in
+    let s = c in decoded (length s.args.output.now) s.args.k s.args.matrix.now s.args.codewords.now (unpacked_indices s.args.indices.now s.args.count s.args.width) s.args.norm in
     let found : c.scale-bad.result ≡ first_not_finite (asked) =
-        let q = c in
-            let g = c in
-            let s = c in
-            c.scale-bad.ensures.value ∙ first_bad (length s.args.output.now) s.args.k s.args.matrix.now s.args.codewords.now (unpacked_indices s.args.indices.now s.args.count s.args.width) s.args.norm s.args.work.now g.gather.new.work q.rotate_back_within.new.work (s.args.count * s.args.k) s.requires.blocks s.requires.halves g.gather.ensures q.rotate_back_within.ensures in
+    let q = c in
+    let g = c in
+    let s = c in
+    c.scale-bad.ensures.value ∙ first_bad (length s.args.output.now) s.args.k s.args.matrix.now s.args.codewords.now (unpacked_indices s.args.indices.now s.args.count s.args.width) s.args.norm s.args.work.now g.gather.new.work q.rotate_back_within.new.work (s.args.count * s.args.k) s.requires.blocks s.requires.halves g.gather.ensures q.rotate_back_within.ensures in
     let same : length c.scale-bad.new.work ≡ length c.args.work.now =
-        c.scale-bad.auto.work ∙ c.rotate_back_within.auto.work ∙ c.gather.auto.work in
+    c.scale-bad.auto.work ∙ c.rotate_back_within.auto.work ∙ c.gather.auto.work in
     let z = c in
     let s = z in
     let r = refuses (asked) s.args.output.now c.in-At.place (sym (found) ∙ c.in-At.is) in
@@ -44,16 +43,16 @@ returns-in-At c =
 pub copy_out-requires : goal.copy_out-requires
 copy_out-requires c =
     let same : length c.scale-bad.new.work ≡ length c.args.work.now =
-        c.scale-bad.auto.work ∙ c.rotate_back_within.auto.work ∙ c.gather.auto.work in
+    c.scale-bad.auto.work ∙ c.rotate_back_within.auto.work ∙ c.gather.auto.work in
     let asked : List Float =
-        let s = c in decoded (length s.args.output.now) s.args.k s.args.matrix.now s.args.codewords.now (unpacked_indices s.args.indices.now s.args.count s.args.width) s.args.norm in
+    let s = c in decoded (length s.args.output.now) s.args.k s.args.matrix.now s.args.codewords.now (unpacked_indices s.args.indices.now s.args.count s.args.width) s.args.norm in
     let found : c.scale-bad.result ≡ first_not_finite (asked) =
-        let q = c in
-            let g = c in
-            let s = c in
-            c.scale-bad.ensures.value ∙ first_bad (length s.args.output.now) s.args.k s.args.matrix.now s.args.codewords.now (unpacked_indices s.args.indices.now s.args.count s.args.width) s.args.norm s.args.work.now g.gather.new.work q.rotate_back_within.new.work (s.args.count * s.args.k) s.requires.blocks s.requires.halves g.gather.ensures q.rotate_back_within.ensures in
+    let q = c in
+    let g = c in
+    let s = c in
+    c.scale-bad.ensures.value ∙ first_bad (length s.args.output.now) s.args.k s.args.matrix.now s.args.codewords.now (unpacked_indices s.args.indices.now s.args.count s.args.width) s.args.norm s.args.work.now g.gather.new.work q.rotate_back_within.new.work (s.args.count * s.args.k) s.requires.blocks s.requires.halves g.gather.ensures q.rotate_back_within.ensures in
     let clean : first_not_finite (asked) ≡ Nowhere =
-        sym (found) ∙ c.in_default.is in
+    sym (found) ∙ c.in_default.is in
     let z = c in
     let q = z in
     let g = z in
@@ -63,16 +62,16 @@ copy_out-requires c =
 pub returns : goal.returns
 returns c =
     let asked : List Float =
-        let s = c in decoded (length s.args.output.now) s.args.k s.args.matrix.now s.args.codewords.now (unpacked_indices s.args.indices.now s.args.count s.args.width) s.args.norm in
+    let s = c in decoded (length s.args.output.now) s.args.k s.args.matrix.now s.args.codewords.now (unpacked_indices s.args.indices.now s.args.count s.args.width) s.args.norm in
     let found : c.scale-bad.result ≡ first_not_finite (asked) =
-        let q = c in
-            let g = c in
-            let s = c in
-            c.scale-bad.ensures.value ∙ first_bad (length s.args.output.now) s.args.k s.args.matrix.now s.args.codewords.now (unpacked_indices s.args.indices.now s.args.count s.args.width) s.args.norm s.args.work.now g.gather.new.work q.rotate_back_within.new.work (s.args.count * s.args.k) s.requires.blocks s.requires.halves g.gather.ensures q.rotate_back_within.ensures in
+    let q = c in
+    let g = c in
+    let s = c in
+    c.scale-bad.ensures.value ∙ first_bad (length s.args.output.now) s.args.k s.args.matrix.now s.args.codewords.now (unpacked_indices s.args.indices.now s.args.count s.args.width) s.args.norm s.args.work.now g.gather.new.work q.rotate_back_within.new.work (s.args.count * s.args.k) s.requires.blocks s.requires.halves g.gather.ensures q.rotate_back_within.ensures in
     let clean : first_not_finite (asked) ≡ Nowhere =
-        sym (found) ∙ c.in_default.is in
+    sym (found) ∙ c.in_default.is in
     let same : length c.scale-bad.new.work ≡ length c.args.work.now =
-        c.scale-bad.auto.work ∙ c.rotate_back_within.auto.work ∙ c.gather.auto.work in
+    c.scale-bad.auto.work ∙ c.rotate_back_within.auto.work ∙ c.gather.auto.work in
     let z = c in
     let q = z in
     let g = z in

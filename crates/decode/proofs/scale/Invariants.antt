@@ -1,17 +1,12 @@
-use mathlib.Core.Path.{◌≡◌, refl, sym, ap, ◌∙◌}
+use mathlib.Core.Path.{◌≡◌}
 use mathlib.Core.Bool.{Bool, not}
 use mathlib.Core.List.{List}
 use Prim.Native.Nat.{ℕ, ◌+◌, ◌-◌, ◌≤◌}
-use native.Mathlib.Omega.{arith}
-use native.Mathlib.Numerals.{add-one}
-use lib.ListN.{length, get_or, length-set}
+use lib.ListN.{length, get_or}
 use lib.Ieee.{Float, nan, binary32, binary64, mul}
 use lib.Ieee.Scale.{finite}
-use borrow.Author.Rules.{rules}
-use Rattle.slices.specs.declared.First.{First}
-use Rattle.slices.specs.First.{first_where, or_at}
+use Rattle.slices.specs.First.{first_where}
 use Rattle.slices.specs.Lists.{patched}
-use Rattle.slices.proofs.ListLaw.{patched_more, patched_next}
 use Rattle.narrow.specs.Pack.{narrow_to}
 use Rattle.decode.proofs.scale.Given as goal
 

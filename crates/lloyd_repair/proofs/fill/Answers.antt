@@ -1,5 +1,5 @@
 -- `lloyd_repair::fill` meets its contract: the event is read before the split. Assumes nothing.
-use Rattle.std.proofs.Common.{refl, rules}
+use Rattle.std.proofs.Common.{refl}
 use lib.Ieee.{of_bits}
 use Rattle.lloyd_repair.proofs.fill.Goals as goal
 

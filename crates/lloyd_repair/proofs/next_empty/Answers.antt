@@ -1,5 +1,5 @@
 -- `lloyd_repair::next_empty` meets its contract: no cell passed is empty. Assumes nothing.
-use Rattle.std.proofs.Common.{◌≡◌, ℕ, ◌+◌, ◌-◌, ◌<◌, ◌≤◌, ◌⊎◌, get_or, inl, inr, eq-or-lt_of_le, arith, rules}
+use Rattle.std.proofs.Common.{◌≡◌, ℕ, ◌+◌, ◌<◌, ◌≤◌, ◌⊎◌, get_or, inl, inr, eq-or-lt_of_le, arith}
 use Rattle.lloyd_repair.proofs.next_empty.Goals as goal
 
 -- what holds below c and at c holds below c + 1

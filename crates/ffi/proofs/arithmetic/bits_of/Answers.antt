@@ -1,11 +1,10 @@
 -- `ffi::arithmetic::bits_of` meets its contract: the pattern of a NaN is the constant, and any other value has its own.
 -- Assumes nothing.
-use mathlib.Core.Path.{sym, ap, ◌∙◌, subst}
+use mathlib.Core.Path.{sym, ap, subst}
 use lib.Dec.{T}
 use lib.Ieee.{binary32, to_bits}
 use lib.Ieee.Compare.{differs_from_itself}
 use Rattle.narrow.proofs.PackLaw.{equal_not_nan}
-use borrow.Author.Rules.{rules}
 use Rattle.ffi.proofs.arithmetic.bits_of.Goals as goal
 
 pub returns-then-x : goal.returns-then-x

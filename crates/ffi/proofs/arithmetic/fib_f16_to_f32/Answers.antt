@@ -3,7 +3,6 @@
 use mathlib.Core.Path.{ap, ◌∙◌}
 use lib.Ieee.{of_bits, binary32, to_bits}
 use Rattle.ffi_crossing.proofs.CrossingLaws.{one_whole_lem}
-use borrow.Author.Rules.{rules}
 use Rattle.ffi.proofs.arithmetic.fib_f16_to_f32.Goals as goal
 
 pub returns : goal.returns

@@ -2,7 +2,6 @@
 use mathlib.Core.Path.{◌∙◌}
 use lib.Ieee.{of_bits}
 use Rattle.ffi_crossing.proofs.CrossingLaws.{one_whole_lem}
-use borrow.Author.Rules.{rules}
 use Rattle.ffi.proofs.arithmetic.fib_f32_to_f16.Goals as goal
 
 pub returns : goal.returns

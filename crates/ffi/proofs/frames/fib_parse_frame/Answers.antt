@@ -5,7 +5,6 @@ use Rattle.compact.specs.Frame.{outcome_of}
 use Rattle.ffi_crossing.specs.Crossing.{crossed, none, whole_values, real_values}
 use Rattle.ffi.specs.Frames.{lengths_in}
 use Rattle.ffi_crossing.proofs.CrossingLaws.{same_refusal}
-use borrow.Author.Rules.{rules}
 use Rattle.ffi.proofs.frames.fib_parse_frame.Goals as goal
 
 pub returns-in-Frame : goal.returns-in-Frame

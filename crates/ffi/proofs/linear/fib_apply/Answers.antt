@@ -1,7 +1,6 @@
 -- `ffi::linear::fib_apply` meets its contract: the answer crosses, and the buffer is the call's. Assumes nothing.
 use mathlib.Core.Path.{ap, ◌∙◌}
 use Rattle.ffi_crossing.specs.Crossing.{crossed, none}
-use borrow.Author.Rules.{rules}
 use Rattle.ffi.proofs.linear.fib_apply.Goals as goal
 
 pub returns : goal.returns

@@ -4,7 +4,6 @@ use lib.Ieee.{of_bits}
 use Rattle.metrics.specs.Mse.{mean_error}
 use Rattle.ffi_crossing.specs.Crossing.{crossed, none, one_real}
 use Rattle.ffi_crossing.proofs.CrossingLaws.{one_real_lem, same_refusal}
-use borrow.Author.Rules.{rules}
 use Rattle.ffi.proofs.linear.fib_mse.Goals as goal
 
 pub returns-in-Value : goal.returns-in-Value

@@ -2,7 +2,6 @@
 -- answer crosses, and the buffer is the call's. Assumes nothing.
 use mathlib.Core.Path.{ap, ◌∙◌}
 use Rattle.ffi_crossing.specs.Crossing.{crossed, none}
-use borrow.Author.Rules.{rules}
 use Rattle.ffi.proofs.packing.fib_unpack_indices.Goals as goal
 
 pub returns : goal.returns

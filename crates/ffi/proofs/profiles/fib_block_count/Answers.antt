@@ -4,7 +4,6 @@ use lib.Ieee.{of_bits}
 use Rattle.profile.specs.Paper.{block_count}
 use Rattle.ffi_crossing.specs.Crossing.{crossed, none, one_whole}
 use Rattle.ffi_crossing.proofs.CrossingLaws.{one_whole_lem, same_refusal}
-use borrow.Author.Rules.{rules}
 use Rattle.ffi.proofs.profiles.fib_block_count.Goals as goal
 
 pub returns-in-Blocks : goal.returns-in-Blocks

@@ -9,7 +9,6 @@ use Rattle.ffi_crossing.specs.Crossing.{crossed, none, whole_values, real_values
 use Rattle.ffi_profile.specs.Profiles.{rates_in, fields_after}
 use Rattle.ffi_crossing.proofs.CrossingLaws.{same_refusal}
 use Rattle.ffi_profile.proofs.ProfileLaws.{fields_kept}
-use borrow.Author.Rules.{rules}
 use Rattle.ffi.proofs.profiles.fib_paper_default.Goals as goal
 
 abbrev after : List ℕ → Outcome FibQuantProfile → List ℕ

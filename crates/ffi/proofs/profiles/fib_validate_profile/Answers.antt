@@ -2,7 +2,6 @@
 -- verdict on the profile of the fields crosses. Assumes nothing.
 use mathlib.Core.Path.{ap, ◌∙◌}
 use Rattle.ffi_crossing.specs.Crossing.{crossed, none}
-use borrow.Author.Rules.{rules}
 use Rattle.ffi.proofs.profiles.fib_validate_profile.Goals as goal
 
 pub returns : goal.returns

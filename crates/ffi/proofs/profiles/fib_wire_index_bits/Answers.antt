@@ -4,7 +4,6 @@ use lib.Ieee.{of_bits}
 use Rattle.profile.specs.Paper.{wire_bits}
 use Rattle.ffi_crossing.specs.Crossing.{crossed, none, one_whole}
 use Rattle.ffi_crossing.proofs.CrossingLaws.{one_whole_lem, same_refusal}
-use borrow.Author.Rules.{rules}
 use Rattle.ffi.proofs.profiles.fib_wire_index_bits.Goals as goal
 
 pub returns-in-Bits : goal.returns-in-Bits

@@ -1,7 +1,6 @@
 -- `ffi::profiles::with_dimensions` meets its contract: the fields are those of the profile that is made. Assumes nothing.
 use mathlib.Core.Path.{ap}
 use Rattle.profile.specs.declared.FibQuantProfile.{FibQuantProfile}
-use borrow.Author.Rules.{rules}
 use Rattle.ffi.proofs.profiles.with_dimensions.Goals as goal
 
 pub returns : goal.returns
