@@ -1,0 +1,16 @@
+use mathlib.Core.Path.{◌≡◌, refl, sym, ap, ◌∙◌}
+use Prim.Native.Nat.{ℕ, ◌≤◌, ◌-◌}
+use native.Mathlib.Omega.{arith}
+use lib.ListN.{length, length-set}
+use lib.Ieee.{Float, binary64, div}
+use Rattle.slices.specs.Lists.{patched}
+use Rattle.slices.proofs.ListLaw.{patched_more}
+use Rattle.encode.specs.Encode.{normalized_at}
+use borrow.Author.Rules.{rules}
+use Rattle.encode.proofs.normalize.Given as goal
+
+abbrev pub invariant-loop-i : goal.invariant-loop-i
+invariant-loop-i l = (l.i ≤ length l.input) × (length l.work ≡ length l.initial.work) × (l.work ≡ patched l.initial.work 0 l.i (normalized_at l.input l.norm))
+
+abbrev pub decreases-loop-i : goal.decreases-loop-i
+decreases-loop-i l = length l.input - l.i

@@ -1,0 +1,20 @@
+use mathlib.Core.Path.{◌≡◌, refl, sym, ap, ◌∙◌}
+use mathlib.Core.List.{List}
+use Prim.Native.Nat.{ℕ, ◌+◌, ◌≤◌, ◌-◌}
+use native.Mathlib.Omega.{arith}
+use lib.ListN.{length, get_or, length-set}
+use lib.Ieee.{Float, nan, binary32}
+use Rattle.slices.specs.Lists.{patched}
+use Rattle.slices.proofs.ListLaw.{patched_more, patched_next}
+use Rattle.narrow.specs.Pack.{narrow_to}
+use borrow.Author.Rules.{rules}
+use Rattle.encode.proofs.round_half.Given as goal
+
+abbrev pub rounded : List Float → ℕ → ℕ → Float
+rounded work d i = narrow_to binary32 (get_or work (d + i) nan)
+
+abbrev pub invariant-loop-i : goal.invariant-loop-i
+invariant-loop-i l = (l.i ≤ l.d) × (length l.work ≡ l.d + l.d) × (l.work ≡ patched l.initial.work l.d l.i (rounded l.initial.work l.d))
+
+abbrev pub decreases-loop-i : goal.decreases-loop-i
+decreases-loop-i l = l.d - l.i

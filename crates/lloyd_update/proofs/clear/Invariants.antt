@@ -1,0 +1,17 @@
+use Rattle.std.proofs.Common.{◌≡◌, ℕ, ◌+◌, ◌-◌, ◌*◌, ◌≤◌, true, List, length, replicate, pos, refl, ap, ◌∙◌, arith, length-set, rules}
+use lib.Ieee.{Float, fin, of_bits, neg}
+use Rattle.ieee.specs.Sum.{plus_zero}
+use Rattle.slices.specs.Lists.{patched}
+use Rattle.slices.proofs.ListLaw.{patched_more}
+use Rattle.lloyd_update.proofs.clear.Given as goal
+
+-- below every distance
+abbrev pub below : ℕ → Float
+below j = fin true 1 (pos 0)
+
+abbrev pub invariant-loop-c : goal.invariant-loop-c
+invariant-loop-c l =
+    (l.c ≤ l.n) × (l.i ≡ l.initial.i + l.c) × (l.initial.i + l.n ≤ length l.initial.work) × (length l.work ≡ length l.initial.work) × (l.work ≡ patched l.initial.work l.initial.i l.c below)
+
+abbrev pub decreases-loop-c : goal.decreases-loop-c
+decreases-loop-c l = l.n - l.c

@@ -1,0 +1,16 @@
+use Rattle.std.proofs.Common.{◌≡◌, ℕ, ◌-◌, ◌≤◌, List, length, get_or, take, sym, refl, ap, ◌∙◌, zero-add, arith, length-set, length-take-le, get_or-take, rules}
+use lib.Ieee.{Float, nan}
+use Rattle.slices.specs.Lists.{tabulate, patched}
+use Rattle.slices.proofs.ListLaw.{patched_more, patched_all}
+use Rattle.slices.proofs.TabulateLaw.{tabulate_is}
+use Rattle.lloyd_update.proofs.copy_words.Given as goal
+
+abbrev pub value_at : List Float → ℕ → Float
+value_at work j = get_or work j nan
+
+abbrev pub invariant-loop-i : goal.invariant-loop-i
+invariant-loop-i l =
+    (l.i ≤ length l.initial.codebook) × (length l.codebook ≡ length l.initial.codebook) × (l.codebook ≡ patched l.initial.codebook 0 l.i (value_at l.work))
+
+abbrev pub decreases-loop-i : goal.decreases-loop-i
+decreases-loop-i l = length l.codebook - l.i

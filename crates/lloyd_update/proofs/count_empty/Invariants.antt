@@ -1,0 +1,14 @@
+use Rattle.std.proofs.Common.{◌≡◌, ℕ, ◌+◌, ◌-◌, ◌≤◌, length, get_or, sym, refl, ap, ◌∙◌, ⊎_elim, add-one, arith, rules}
+use Rattle.lloyd_cells.specs.Cells.{count_to}
+use Rattle.lloyd_cells.proofs.CellsLaw.{count_to_in, count_to_out}
+use Rattle.lloyd_update.proofs.count_empty.Given as goal
+
+-- `empty` of the first n cells are empty
+abbrev pub Counted : (ℕ → ℕ) → ℕ → ℕ → Type 0
+Counted tally n empty = (empty ≤ n) × (empty ≡ count_to tally 0 n)
+
+abbrev pub invariant-loop-c : goal.invariant-loop-c
+invariant-loop-c l = (l.c ≤ length l.counts) × Counted (λ i. get_or l.counts i 0) l.c l.empty
+
+abbrev pub decreases-loop-c : goal.decreases-loop-c
+decreases-loop-c l = length l.counts - l.c
