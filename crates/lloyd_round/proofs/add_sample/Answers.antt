@@ -5,7 +5,6 @@ use native.Mathlib.Omega.{arith}
 use mathlib.Core.Bool.{Bool, true, false}
 use lib.ListN.{length, get_or}
 use lib.Ieee.{nan, lt}
-use borrow.Author.Rules.{rules}
 use Rattle.lloyd_cells.specs.declared.Places.{Places}
 use Rattle.lloyd_cells.specs.Work.{Fit}
 use Rattle.lloyd_round.specs.Adding.{join_work}
@@ -15,16 +14,16 @@ use Rattle.lloyd_round.proofs.add_sample.Goals as goal
 pub places-p-requires : goal.places-p-requires
 places-p-requires c =
     let dim : ℕ =
-        length c.args.sample.now in
+    length c.args.sample.now in
     let s = c in places_small s.args.n (dim) s.requires.most s.requires.least
 
 pub gather-requires : goal.gather-requires
 gather-requires c =
     let dim : ℕ =
-        length c.args.sample.now in
+    length c.args.sample.now in
     let cell_below : c.nearest_cell-near.result.index < c.args.n =
-        let s = c in
-            near_below s.args.n (dim) s.args.sample.now s.args.work.now c.nearest_cell-near.result c.nearest_cell-near.ensures s.requires.any in
+    let s = c in
+    near_below s.args.n (dim) s.args.sample.now s.args.work.now c.nearest_cell-near.result c.nearest_cell-near.ensures s.requires.any in
     let q = c in
     let s = q in
     let a = s.args in (
@@ -37,30 +36,30 @@ gather-requires c =
 pub overflow_add-number : goal.overflow_add-number
 overflow_add-number c =
     let dim : ℕ =
-        length c.args.sample.now in
+    length c.args.sample.now in
     let cell_below : c.nearest_cell-near.result.index < c.args.n =
-        let s = c in
-            near_below s.args.n (dim) s.args.sample.now s.args.work.now c.nearest_cell-near.result c.nearest_cell-near.ensures s.requires.any in
+    let s = c in
+    near_below s.args.n (dim) s.args.sample.now s.args.work.now c.nearest_cell-near.result c.nearest_cell-near.ensures s.requires.any in
     let q = c in omega (arith, cell_below, q.requires.most)
 
 pub offset_bounds-ints-number : goal.offset_bounds-ints-number
 offset_bounds-ints-number c =
     let dim : ℕ =
-        length c.args.sample.now in
+    length c.args.sample.now in
     let cell_below : c.nearest_cell-near.result.index < c.args.n =
-        let s = c in
-            near_below s.args.n (dim) s.args.sample.now s.args.work.now c.nearest_cell-near.result c.nearest_cell-near.ensures s.requires.any in
+    let s = c in
+    near_below s.args.n (dim) s.args.sample.now s.args.work.now c.nearest_cell-near.result c.nearest_cell-near.ensures s.requires.any in
     let q = c in omega (arith, cell_below, q.requires.most)
 
 pub bounds-ints-number : goal.bounds-ints-number
 bounds-ints-number c =
     let dim : ℕ =
-        length c.args.sample.now in
+    length c.args.sample.now in
     let cell_below : c.nearest_cell-near.result.index < c.args.n =
-        let s = c in
-            near_below s.args.n (dim) s.args.sample.now s.args.work.now c.nearest_cell-near.result c.nearest_cell-near.ensures s.requires.any in
+    let s = c in
+    near_below s.args.n (dim) s.args.sample.now s.args.work.now c.nearest_cell-near.result c.nearest_cell-near.ensures s.requires.any in
     let left-size : length c.gather.new.counts ≡ length c.args.ints.now =
-        c.gather.auto.counts in
+    c.gather.auto.counts in
     let g = c in
     let q = g in
     omega (arith, cell_below, left-size, q.requires.integers)
@@ -68,14 +67,14 @@ bounds-ints-number c =
 pub returns-then-gather : goal.returns-then-gather
 returns-then-gather c =
     let dim : ℕ =
-        length c.args.sample.now in
+    length c.args.sample.now in
     let left-work : let s = c in c.gather.new.work ≡ join_work s.args.n (dim) s.args.sample.now s.args.work.now =
-        let q = c in
-            let s = q in
-            let p = q.places-p in
-            joined_work s.args.n (dim) s.args.sample.now s.args.work.now q.nearest_cell-near.result q.nearest_cell-near.ensures p.result p.ensures c.gather.new.work c.gather.ensures.work in
+    let q = c in
+    let s = q in
+    let p = q.places-p in
+    joined_work s.args.n (dim) s.args.sample.now s.args.work.now q.nearest_cell-near.result q.nearest_cell-near.ensures p.result p.ensures c.gather.new.work c.gather.ensures.work in
     let farther : (b : Bool) → c.gather.result ≡ b → let q = c in lt (get_or q.args.work.now (q.places-p.result.farthest + q.nearest_cell-near.result.index) nan) q.nearest_cell-near.result.distance ≡ b =
-        λ b e. subst (λ (z : Bool). z ≡ b) c.gather.ensures.far e in
+    λ b e. subst (λ (z : Bool). z ≡ b) c.gather.ensures.far e in
     let g = c in
     let q = g in
     let a = q.args in
@@ -85,14 +84,14 @@ returns-then-gather c =
 pub returns-else-gather : goal.returns-else-gather
 returns-else-gather c =
     let dim : ℕ =
-        length c.args.sample.now in
+    length c.args.sample.now in
     let left-work : let s = c in c.gather.new.work ≡ join_work s.args.n (dim) s.args.sample.now s.args.work.now =
-        let q = c in
-            let s = q in
-            let p = q.places-p in
-            joined_work s.args.n (dim) s.args.sample.now s.args.work.now q.nearest_cell-near.result q.nearest_cell-near.ensures p.result p.ensures c.gather.new.work c.gather.ensures.work in
+    let q = c in
+    let s = q in
+    let p = q.places-p in
+    joined_work s.args.n (dim) s.args.sample.now s.args.work.now q.nearest_cell-near.result q.nearest_cell-near.ensures p.result p.ensures c.gather.new.work c.gather.ensures.work in
     let farther : (b : Bool) → c.gather.result ≡ b → let q = c in lt (get_or q.args.work.now (q.places-p.result.farthest + q.nearest_cell-near.result.index) nan) q.nearest_cell-near.result.distance ≡ b =
-        λ b e. subst (λ (z : Bool). z ≡ b) c.gather.ensures.far e in
+    λ b e. subst (λ (z : Bool). z ≡ b) c.gather.ensures.far e in
     let g = c in
     let q = g in
     let a = q.args in

@@ -1,11 +1,9 @@
 -- `lloyd_round::add_samples` meets its contract: the samples passed are added up. Assumes nothing.
 use mathlib.Core.Path.{◌≡◌, refl, ◌∙◌, subst}
-use Prim.Native.Nat.{ℕ, ◌+◌, ◌-◌, ◌*◌, ◌≤◌}
+use Prim.Native.Nat.{ℕ, ◌+◌, ◌≤◌}
 use native.Mathlib.Omega.{arith}
 use lib.ListN.{length}
-use borrow.Author.Rules.{rules}
 use Rattle.lloyd_search.proofs.Parts.{next_row}
-use Rattle.lloyd_cells.specs.Work.{Kept}
 use Rattle.lloyd_cells.proofs.WorkLaw.{kept_refl}
 use Rattle.lloyd_round.specs.Round.{places_of}
 use Rattle.lloyd_round.specs.Adding.{front, Added}
@@ -21,22 +19,22 @@ loop-s-init c =
 pub overflow_add-end : goal.overflow_add-end
 overflow_add-end c =
     let in_samples : c.loop-s.at + c.args.k ≤ length c.args.samples.now =
-        let l = c.loop-s in
-            sample_fits c.requires.roomy l.s l.at l.work l.ints c.loop-s-test.true l.invariant.1 l.invariant.2 l.invariant.3 l.invariant.4 in
+    let l = c.loop-s in
+    sample_fits c.requires.roomy l.s l.at l.work l.ints c.loop-s-test.true l.invariant.1 l.invariant.2 l.invariant.3 l.invariant.4 in
     omega (arith, in_samples)
 
 pub offset_bounds-samples-at : goal.offset_bounds-samples-at
 offset_bounds-samples-at c =
     let in_samples : c.loop-s.at + c.args.k ≤ length c.args.samples.now =
-        let l = c.loop-s in
-            sample_fits c.requires.roomy l.s l.at l.work l.ints c.loop-s-test.true l.invariant.1 l.invariant.2 l.invariant.3 l.invariant.4 in
+    let l = c.loop-s in
+    sample_fits c.requires.roomy l.s l.at l.work l.ints c.loop-s-test.true l.invariant.1 l.invariant.2 l.invariant.3 l.invariant.4 in
     let i = c in omega (arith, in_samples, i.well_formed.0.1)
 
 pub slice_bounds-add_sample-end : goal.slice_bounds-add_sample-end
 slice_bounds-add_sample-end c =
     let in_samples : c.loop-s.at + c.args.k ≤ length c.args.samples.now =
-        let l = c.loop-s in
-            sample_fits c.requires.roomy l.s l.at l.work l.ints c.loop-s-test.true l.invariant.1 l.invariant.2 l.invariant.3 l.invariant.4 in
+    let l = c.loop-s in
+    sample_fits c.requires.roomy l.s l.at l.work l.ints c.loop-s-test.true l.invariant.1 l.invariant.2 l.invariant.3 l.invariant.4 in
     in_samples
 
 pub add_sample-requires : goal.add_sample-requires

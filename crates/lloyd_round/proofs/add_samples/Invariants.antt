@@ -1,14 +1,9 @@
-use mathlib.Core.Path.{◌≡◌, refl, ◌∙◌, subst}
-use Prim.Native.Nat.{ℕ, ◌+◌, ◌-◌, ◌*◌, ◌≤◌}
-use native.Mathlib.Omega.{arith}
+use mathlib.Core.Path.{◌≡◌}
+use Prim.Native.Nat.{◌-◌, ◌*◌, ◌≤◌}
 use lib.ListN.{length}
-use borrow.Author.Rules.{rules}
-use Rattle.lloyd_search.proofs.Parts.{next_row}
 use Rattle.lloyd_cells.specs.Work.{Kept}
-use Rattle.lloyd_cells.proofs.WorkLaw.{kept_refl}
 use Rattle.lloyd_round.specs.Round.{places_of}
 use Rattle.lloyd_round.specs.Adding.{front, Added}
-use Rattle.lloyd_round.proofs.AddLaw.{sample_fits, addable, next_kept, next_added}
 use Rattle.lloyd_round.proofs.add_samples.Given as goal
 
 abbrev pub invariant-loop-s : goal.invariant-loop-s

@@ -7,7 +7,6 @@ use lib.IntN.{pos}
 use lib.ListN.{replicate}
 use lib.Ieee.{Float, fin, of_bits, neg}
 use Rattle.slices.specs.Lists.{patched}
-use borrow.Author.Rules.{rules}
 use Rattle.lloyd_round.proofs.clear.Goals as goal
 
 pub returns : goal.returns

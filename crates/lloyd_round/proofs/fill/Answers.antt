@@ -1,8 +1,7 @@
 -- `lloyd_round::fill` meets its contract: the values passed are x. Assumes nothing.
 use mathlib.Core.Path.{◌≡◌, refl}
-use Prim.Native.Nat.{◌≤◌, ◌-◌, ◌+◌}
 use native.Mathlib.Omega.{arith}
-use lib.ListN.{length, length-set}
+use lib.ListN.{length-set}
 use borrow.Author.Rules.{rules}
 use Rattle.slices.specs.Lists.{patched}
 use Rattle.slices.proofs.ListLaw.{patched_more}

@@ -1,7 +1,7 @@
 -- `lloyd_round::nearest_cell` meets its contract: a distance found below infinity is that of its codeword; and the index
 -- found is below n, so that its codeword lies within the codebook. Assumes nothing.
 use mathlib.Core.Path.{◌≡◌, refl, sym, ap, ◌∙◌, subst}
-use Prim.Native.Nat.{ℕ, ◌≤◌, ◌<◌, ◌-◌, ◌+◌, ◌*◌}
+use Prim.Native.Nat.{ℕ, ◌≤◌, ◌<◌, ◌+◌, ◌*◌}
 use native.Mathlib.Omega.{arith}
 use mathlib.Core.Bool.{false}
 use mathlib.Core.List.{List}
@@ -9,7 +9,6 @@ use lib.ListN.{length}
 use lib.Seq.{length-take-le}
 use lib.Dec.{T}
 use lib.Ieee.{Float, inf, lt, of_bits, nan_bits}
-use borrow.Author.Rules.{rules}
 use Rattle.ieee.proofs.Value.{holds_true}
 use Rattle.lloyd_search.specs.declared.Found.{Found}
 use Rattle.lloyd_search.specs.declared.Choice.{Choice}
@@ -26,21 +25,21 @@ answer i j x d e h = rw (h, e)
 pub slice_bounds-codewords-end : goal.slice_bounds-codewords-end
 slice_bounds-codewords-end c =
     let block : List Float =
-        c.args.sample.now in
+    c.args.sample.now in
     let book : List Float =
-        front c.args.n (length (block)) c.args.work.now in
+    front c.args.n (length (block)) c.args.work.now in
     let book-size : length (book) ≡ c.args.n * length (block) =
-        length-take-le (c.args.n * length (block)) c.args.work.now c.requires.1 in
+    length-take-le (c.args.n * length (block)) c.args.work.now c.requires.1 in
     sym (book-size)
 
 pub search-choice-requires : goal.search-choice-requires
 search-choice-requires c =
     let block : List Float =
-        c.args.sample.now in
+    c.args.sample.now in
     let book : List Float =
-        front c.args.n (length (block)) c.args.work.now in
+    front c.args.n (length (block)) c.args.work.now in
     let book-size : length (book) ≡ c.args.n * length (block) =
-        length-take-le (c.args.n * length (block)) c.args.work.now c.requires.1 in
+    length-take-le (c.args.n * length (block)) c.args.work.now c.requires.1 in
     book-size
 
 pub float_from_bits-t-14 : goal.float_from_bits-t-14
@@ -52,9 +51,9 @@ pub returns-then-found : goal.returns-then-found
 unfolding of_bits
 returns-then-found c =
     let block : List Float =
-        c.args.sample.now in
+    c.args.sample.now in
     let book : List Float =
-        front c.args.n (length (block)) c.args.work.now in
+    front c.args.n (length (block)) c.args.work.now in
     let q = c in
     let s = q in
     let k = length (block) in
@@ -65,73 +64,73 @@ returns-then-found c =
 pub overflow_mul-from : goal.overflow_mul-from
 overflow_mul-from c =
     let block : List Float =
-        c.args.sample.now in
+    c.args.sample.now in
     let book : List Float =
-        front c.args.n (length (block)) c.args.work.now in
+    front c.args.n (length (block)) c.args.work.now in
     let found_below : c.search-choice.result.found.index < c.args.n =
-        let s = c in
-            subst (λ (r : Choice). r.found.index < s.args.n) (sym c.search-choice.ensures) (index_below (λ i. distance (length (block)) (vector_of (block)) (row_of (length (block)) (book) i)) s.args.n s.requires.0) in
+    let s = c in
+    subst (λ (r : Choice). r.found.index < s.args.n) (sym c.search-choice.ensures) (index_below (λ i. distance (length (block)) (vector_of (block)) (row_of (length (block)) (book) i)) s.args.n s.requires.0) in
     let book-size : length (book) ≡ c.args.n * length (block) =
-        length-take-le (c.args.n * length (block)) c.args.work.now c.requires.1 in
+    length-take-le (c.args.n * length (block)) c.args.work.now c.requires.1 in
     let codeword-fits : c.search-choice.result.found.index * length (block) + length (block) ≤ length (book) =
-        let s = c in
-            row_fits c.search-choice.result.found.index s.args.n (length (block)) (c.search-choice.result.found.index * length (block)) (length (book)) (found_below) refl (book-size) in
+    let s = c in
+    row_fits c.search-choice.result.found.index s.args.n (length (block)) (c.search-choice.result.found.index * length (block)) (length (book)) (found_below) refl (book-size) in
     let q = c in omega (arith, codeword-fits, book-size)
 
 pub overflow_add-to : goal.overflow_add-to
 overflow_add-to c =
     let block : List Float =
-        c.args.sample.now in
+    c.args.sample.now in
     let book : List Float =
-        front c.args.n (length (block)) c.args.work.now in
+    front c.args.n (length (block)) c.args.work.now in
     let found_below : c.search-choice.result.found.index < c.args.n =
-        let s = c in
-            subst (λ (r : Choice). r.found.index < s.args.n) (sym c.search-choice.ensures) (index_below (λ i. distance (length (block)) (vector_of (block)) (row_of (length (block)) (book) i)) s.args.n s.requires.0) in
+    let s = c in
+    subst (λ (r : Choice). r.found.index < s.args.n) (sym c.search-choice.ensures) (index_below (λ i. distance (length (block)) (vector_of (block)) (row_of (length (block)) (book) i)) s.args.n s.requires.0) in
     let book-size : length (book) ≡ c.args.n * length (block) =
-        length-take-le (c.args.n * length (block)) c.args.work.now c.requires.1 in
+    length-take-le (c.args.n * length (block)) c.args.work.now c.requires.1 in
     let codeword-fits : c.search-choice.result.found.index * length (block) + length (block) ≤ length (book) =
-        let s = c in
-            row_fits c.search-choice.result.found.index s.args.n (length (block)) (c.search-choice.result.found.index * length (block)) (length (book)) (found_below) refl (book-size) in
+    let s = c in
+    row_fits c.search-choice.result.found.index s.args.n (length (block)) (c.search-choice.result.found.index * length (block)) (length (book)) (found_below) refl (book-size) in
     let q = c in omega (arith, codeword-fits, book-size)
 
 pub offset_bounds-codewords-from : goal.offset_bounds-codewords-from
 offset_bounds-codewords-from c =
     let block : List Float =
-        c.args.sample.now in
+    c.args.sample.now in
     let book : List Float =
-        front c.args.n (length (block)) c.args.work.now in
+    front c.args.n (length (block)) c.args.work.now in
     let found_below : c.search-choice.result.found.index < c.args.n =
-        let s = c in
-            subst (λ (r : Choice). r.found.index < s.args.n) (sym c.search-choice.ensures) (index_below (λ i. distance (length (block)) (vector_of (block)) (row_of (length (block)) (book) i)) s.args.n s.requires.0) in
+    let s = c in
+    subst (λ (r : Choice). r.found.index < s.args.n) (sym c.search-choice.ensures) (index_below (λ i. distance (length (block)) (vector_of (block)) (row_of (length (block)) (book) i)) s.args.n s.requires.0) in
     let book-size : length (book) ≡ c.args.n * length (block) =
-        length-take-le (c.args.n * length (block)) c.args.work.now c.requires.1 in
+    length-take-le (c.args.n * length (block)) c.args.work.now c.requires.1 in
     let codeword-fits : c.search-choice.result.found.index * length (block) + length (block) ≤ length (book) =
-        let s = c in
-            row_fits c.search-choice.result.found.index s.args.n (length (block)) (c.search-choice.result.found.index * length (block)) (length (book)) (found_below) refl (book-size) in
+    let s = c in
+    row_fits c.search-choice.result.found.index s.args.n (length (block)) (c.search-choice.result.found.index * length (block)) (length (book)) (found_below) refl (book-size) in
     let q = c in omega (arith, codeword-fits, book-size, q.well_formed.0.1)
 
 pub slice_bounds-squared_distance-end : goal.slice_bounds-squared_distance-end
 slice_bounds-squared_distance-end c =
     let block : List Float =
-        c.args.sample.now in
+    c.args.sample.now in
     let book : List Float =
-        front c.args.n (length (block)) c.args.work.now in
+    front c.args.n (length (block)) c.args.work.now in
     let found_below : c.search-choice.result.found.index < c.args.n =
-        let s = c in
-            subst (λ (r : Choice). r.found.index < s.args.n) (sym c.search-choice.ensures) (index_below (λ i. distance (length (block)) (vector_of (block)) (row_of (length (block)) (book) i)) s.args.n s.requires.0) in
+    let s = c in
+    subst (λ (r : Choice). r.found.index < s.args.n) (sym c.search-choice.ensures) (index_below (λ i. distance (length (block)) (vector_of (block)) (row_of (length (block)) (book) i)) s.args.n s.requires.0) in
     let book-size : length (book) ≡ c.args.n * length (block) =
-        length-take-le (c.args.n * length (block)) c.args.work.now c.requires.1 in
+    length-take-le (c.args.n * length (block)) c.args.work.now c.requires.1 in
     let codeword-fits : c.search-choice.result.found.index * length (block) + length (block) ≤ length (book) =
-        let s = c in
-            row_fits c.search-choice.result.found.index s.args.n (length (block)) (c.search-choice.result.found.index * length (block)) (length (book)) (found_below) refl (book-size) in
+    let s = c in
+    row_fits c.search-choice.result.found.index s.args.n (length (block)) (c.search-choice.result.found.index * length (block)) (length (book)) (found_below) refl (book-size) in
     codeword-fits
 
 pub returns : goal.returns
 returns c =
     let block : List Float =
-        c.args.sample.now in
+    c.args.sample.now in
     let book : List Float =
-        front c.args.n (length (block)) c.args.work.now in
+    front c.args.n (length (block)) c.args.work.now in
     let q = c in
     let s = q in
     let k = length (block) in

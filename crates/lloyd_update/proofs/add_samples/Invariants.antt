@@ -1,6 +1,5 @@
-use Rattle.std.proofs.Common.{◌≡◌, ℕ, ◌+◌, ◌-◌, ◌*◌, ◌<◌, ◌≤◌, length, get_or, take, drop, sym, refl, ap, ◌∙◌, ⊎_elim, arith, length-set, rules}
-use Rattle.lloyd_search.proofs.Parts.{next_row}
-use Rattle.lloyd_update.proofs.AddLaw.{AddedTo, numbers_room, places_small, sample_fits, word_fits, part-size, word_size, gather_fit, counts_upto, after_size, added_nearer, added_farther}
+use Rattle.std.proofs.Common.{◌≡◌, ℕ, ◌-◌, ◌*◌, ◌<◌, ◌≤◌, length, get_or}
+use Rattle.lloyd_update.proofs.AddLaw.{AddedTo}
 use Rattle.lloyd_update.proofs.add_samples.Given as goal
 
 abbrev pub invariant-loop-s : goal.invariant-loop-s

@@ -1,6 +1,6 @@
 -- `lloyd_update::check_values` meets its contract: the two slices of
 -- values, and then no assignment passed is out of range. Assumes nothing.
-use Rattle.std.proofs.Common.{◌≡◌, ℕ, ◌-◌, ◌<◌, ◌≤◌, Bool, false, leb, List, [], ◌∷◌, length, get_or, sym, ◌∙◌, arith, rules, below_more, le-leb}
+use Rattle.std.proofs.Common.{◌≡◌, ℕ, ◌<◌, ◌≤◌, Bool, false, leb, List, [], ◌∷◌, length, get_or, sym, ◌∙◌, arith, rules, below_more, le-leb}
 use lib.Ieee.{Float, of_bits}
 use borrow.Author.Tests.{lt-leb}
 use Rattle.error.specs.Numbers.{completed, refused, whole}
@@ -32,7 +32,7 @@ pub returns-in-At-bad : goal.returns-in-At-bad
 unfolding value_checks of_bits
 returns-in-At-bad c =
     let codebook-clean : first_outside update_limit c.args.codebook.now ≡ Nowhere =
-        sym c.first_outside-bad.ensures ∙ c.in_default.is in
+    sym c.first_outside-bad.ensures ∙ c.in_default.is in
     let g = c in
     rw (codebook-clean, ← g.first_outside-bad-2.ensures, c.in-At-bad.is)
 
@@ -46,9 +46,9 @@ pub returns-then-n-cell : goal.returns-then-n-cell
 unfolding of_bits
 returns-then-n-cell c =
     let codebook-clean : first_outside update_limit c.args.codebook.now ≡ Nowhere =
-        sym c.first_outside-bad.ensures ∙ c.in_default.is in
+    sym c.first_outside-bad.ensures ∙ c.in_default.is in
     let samples-clean : first_outside update_limit c.args.samples.now ≡ Nowhere =
-        sym c.first_outside-bad-2.ensures ∙ c.in_default-bad.is in
+    sym c.first_outside-bad-2.ensures ∙ c.in_default-bad.is in
     let l = c in
     let t = l in
     let g = t in
@@ -62,9 +62,9 @@ pub returns : goal.returns
 unfolding of_bits
 returns c =
     let codebook-clean : first_outside update_limit c.args.codebook.now ≡ Nowhere =
-        sym c.first_outside-bad.ensures ∙ c.in_default.is in
+    sym c.first_outside-bad.ensures ∙ c.in_default.is in
     let samples-clean : first_outside update_limit c.args.samples.now ≡ Nowhere =
-        sym c.first_outside-bad-2.ensures ∙ c.in_default-bad.is in
+    sym c.first_outside-bad-2.ensures ∙ c.in_default-bad.is in
     let l = c in
     let t = l in
     let g = t in

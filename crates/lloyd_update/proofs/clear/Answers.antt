@@ -1,6 +1,6 @@
 -- `lloyd_update::clear` meets its contract: after the zeros, the farthest distances passed are -1. Assumes nothing.
-use Rattle.std.proofs.Common.{◌≡◌, ℕ, ◌+◌, ◌-◌, ◌*◌, ◌≤◌, true, List, length, replicate, pos, refl, ap, ◌∙◌, arith, length-set, rules}
-use lib.Ieee.{Float, fin, of_bits, neg}
+use Rattle.std.proofs.Common.{◌≡◌, ℕ, ◌+◌, ◌*◌, List, length, replicate, refl, ap, ◌∙◌, arith, length-set, rules}
+use lib.Ieee.{Float, of_bits, neg}
 use Rattle.ieee.specs.Sum.{plus_zero}
 use Rattle.slices.specs.Lists.{patched}
 use Rattle.slices.proofs.ListLaw.{patched_more}

@@ -1,8 +1,6 @@
-use Rattle.std.proofs.Common.{◌≡◌, ℕ, ◌+◌, ◌-◌, ◌*◌, ◌≤◌, true, List, length, replicate, pos, refl, ap, ◌∙◌, arith, length-set, rules}
-use lib.Ieee.{Float, fin, of_bits, neg}
-use Rattle.ieee.specs.Sum.{plus_zero}
+use Rattle.std.proofs.Common.{◌≡◌, ℕ, ◌+◌, ◌-◌, ◌≤◌, true, length, pos}
+use lib.Ieee.{Float, fin}
 use Rattle.slices.specs.Lists.{patched}
-use Rattle.slices.proofs.ListLaw.{patched_more}
 use Rattle.lloyd_update.proofs.clear.Given as goal
 
 -- below every distance

@@ -1,5 +1,5 @@
 -- `lloyd_update::copy_words` meets its contract: the places passed hold the work's values. Assumes nothing.
-use Rattle.std.proofs.Common.{◌≡◌, ℕ, ◌-◌, ◌≤◌, List, length, get_or, take, sym, refl, ap, ◌∙◌, zero-add, arith, length-set, length-take-le, get_or-take, rules}
+use Rattle.std.proofs.Common.{◌≡◌, ℕ, ◌≤◌, List, length, take, sym, refl, ap, ◌∙◌, zero-add, arith, length-set, length-take-le, get_or-take, rules}
 use lib.Ieee.{Float, nan}
 use Rattle.slices.specs.Lists.{tabulate, patched}
 use Rattle.slices.proofs.ListLaw.{patched_more, patched_all}

@@ -1,8 +1,6 @@
-use Rattle.std.proofs.Common.{◌≡◌, ℕ, ◌-◌, ◌≤◌, List, length, get_or, take, sym, refl, ap, ◌∙◌, zero-add, arith, length-set, length-take-le, get_or-take, rules}
+use Rattle.std.proofs.Common.{◌≡◌, ℕ, ◌-◌, ◌≤◌, List, length, get_or}
 use lib.Ieee.{Float, nan}
-use Rattle.slices.specs.Lists.{tabulate, patched}
-use Rattle.slices.proofs.ListLaw.{patched_more, patched_all}
-use Rattle.slices.proofs.TabulateLaw.{tabulate_is}
+use Rattle.slices.specs.Lists.{patched}
 use Rattle.lloyd_update.proofs.copy_words.Given as goal
 
 abbrev pub value_at : List Float → ℕ → Float

@@ -1,5 +1,5 @@
 -- `lloyd_update::count_empty` meets its contract: the empty ones among the cells passed are counted. Assumes nothing.
-use Rattle.std.proofs.Common.{◌≡◌, ℕ, ◌+◌, ◌-◌, ◌≤◌, length, get_or, sym, refl, ap, ◌∙◌, ⊎_elim, add-one, arith, rules}
+use Rattle.std.proofs.Common.{◌≡◌, ℕ, ◌+◌, length, get_or, sym, refl, ap, ◌∙◌, add-one, arith, rules}
 use Rattle.lloyd_cells.specs.Cells.{count_to}
 use Rattle.lloyd_cells.proofs.CellsLaw.{count_to_in, count_to_out}
 use Rattle.lloyd_update.proofs.count_empty.Invariants.{Counted}

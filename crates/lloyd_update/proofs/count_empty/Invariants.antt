@@ -1,6 +1,5 @@
-use Rattle.std.proofs.Common.{◌≡◌, ℕ, ◌+◌, ◌-◌, ◌≤◌, length, get_or, sym, refl, ap, ◌∙◌, ⊎_elim, add-one, arith, rules}
+use Rattle.std.proofs.Common.{◌≡◌, ℕ, ◌-◌, ◌≤◌, length, get_or}
 use Rattle.lloyd_cells.specs.Cells.{count_to}
-use Rattle.lloyd_cells.proofs.CellsLaw.{count_to_in, count_to_out}
 use Rattle.lloyd_update.proofs.count_empty.Given as goal
 
 -- `empty` of the first n cells are empty

@@ -1,5 +1,5 @@
 -- `lloyd_update::next_repair` meets its contract: the repairs go on after the one that was made. Assumes nothing.
-use Rattle.std.proofs.Common.{List, length, sym, ap, ◌∙◌, subst, rules}
+use Rattle.std.proofs.Common.{List, length, sym, ap, ◌∙◌, subst}
 use Rattle.lloyd_events.specs.declared.LloydRepairEvent.{LloydRepairEvent}
 use Rattle.lloyd_update.specs.Progress.{UpdateProgress}
 use Rattle.lloyd_update.proofs.RepairsLaw.{ready_at}
