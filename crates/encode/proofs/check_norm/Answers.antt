@@ -1,8 +1,6 @@
 -- `encode::check_norm` meets its contract: the input, the norm, its pattern. Assumes nothing.
-use mathlib.Core.Path.{◌≡◌, refl, sym, ap, ◌∙◌}
 use lib.Ieee.{of_bits}
 use Rattle.encode.specs.Encode.{normed}
-use borrow.Author.Rules.{rules}
 use Rattle.encode.proofs.check_norm.Goals as goal
 
 pub returns-in-At : goal.returns-in-At

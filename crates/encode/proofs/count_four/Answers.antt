@@ -1,7 +1,5 @@
 -- `encode::count_four` meets its contract: each of four is at most 1. Assumes nothing.
-use mathlib.Core.Path.{◌≡◌}
 use native.Mathlib.Omega.{arith}
-use borrow.Author.Rules.{rules}
 use Rattle.lloyd_search.specs.Choice.{mark_of}
 use Rattle.slices.proofs.CountLaw.{one_most}
 use Rattle.encode.proofs.count_four.Goals as goal

@@ -1,6 +1,4 @@
 -- `encode::count_one` meets its contract, by the two cases of the mark. Assumes nothing.
-use mathlib.Core.Path.{◌≡◌}
-use borrow.Author.Rules.{rules}
 use Rattle.encode.proofs.count_one.Goals as goal
 
 pub returns-then-is_tied : goal.returns-then-is_tied

@@ -10,16 +10,15 @@ use Rattle.norm.specs.Norm.{bits_of}
 use Rattle.encode.specs.Encode.{EncodeCall, encode_call, normed, fitting, codable}
 use Rattle.encode.proofs.CheckLaw.{code_unfit, code_norm, code_refused, encoding_is, counting_is}
 use Rattle.encode.proofs.AcceptLaw.{Fitting, fitting_accepted, writable, codewords_finite}
-use borrow.Author.Rules.{rules}
 use Rattle.encode.proofs.encode.Goals as goal
 
 pub returns-in-Refused : goal.returns-in-Refused
 returns-in-Refused c =
     let call-of : EncodeCall =
-        let a = c.args in
-            encode_call a.profile a.schema.now a.rotation_algorithm.now a.log2 a.matrix.now a.codewords.now a.input.now (length a.output.now) (length a.work.now) in
+    let a = c.args in
+    encode_call a.profile a.schema.now a.rotation_algorithm.now a.log2 a.matrix.now a.codewords.now a.input.now (length a.output.now) (length a.work.now) in
     let zeros : List Float =
-        replicate (length c.args.work.now) plus_zero in
+    replicate (length c.args.work.now) plus_zero in
     let s = c in
     let r = c.in-Refused.refusal in
     code_refused (call-of) r s.args.output.now (zeros) s.args.work.now
@@ -28,12 +27,12 @@ returns-in-Refused c =
 pub write_code-tied_blocks-requires : goal.write_code-tied_blocks-requires
 write_code-tied_blocks-requires c =
     let call-of : EncodeCall =
-        let a = c.args in
-            encode_call a.profile a.schema.now a.rotation_algorithm.now a.log2 a.matrix.now a.codewords.now a.input.now (length a.output.now) (length a.work.now) in
+    let a = c.args in
+    encode_call a.profile a.schema.now a.rotation_algorithm.now a.log2 a.matrix.now a.codewords.now a.input.now (length a.output.now) (length a.work.now) in
     let fits : fitting (call-of) ≡ completed tt =
-        sym c.check_call-checks.ensures ∙ ap checked c.in_default.is in
+    sym c.check_call-checks.ensures ∙ ap checked c.in_default.is in
     let passes : Fitting (call-of) =
-        fitting_accepted (call-of) (fits) in
+    fitting_accepted (call-of) (fits) in
     let n = c in
     let t = n in
     let d = call-of in
@@ -42,15 +41,15 @@ write_code-tied_blocks-requires c =
 pub returns-in-Refused-pattern : goal.returns-in-Refused-pattern
 returns-in-Refused-pattern c =
     let call-of : EncodeCall =
-        let a = c.args in
-            encode_call a.profile a.schema.now a.rotation_algorithm.now a.log2 a.matrix.now a.codewords.now a.input.now (length a.output.now) (length a.work.now) in
+    let a = c.args in
+    encode_call a.profile a.schema.now a.rotation_algorithm.now a.log2 a.matrix.now a.codewords.now a.input.now (length a.output.now) (length a.work.now) in
     let zeros : List Float =
-        replicate (length c.args.work.now) plus_zero in
+    replicate (length c.args.work.now) plus_zero in
     let fits : fitting (call-of) ≡ completed tt =
-        sym c.check_call-checks.ensures ∙ ap checked c.in_default.is in
+    sym c.check_call-checks.ensures ∙ ap checked c.in_default.is in
     let coded : bits_of c.check_norm-pattern.result ≡ codable (call-of) =
-        let d = call-of in
-            c.check_norm-pattern.ensures ∙ ap (normed d.input) c.l2_norm-norm.ensures ∙ sym (code_norm d (fits)) in
+    let d = call-of in
+    c.check_norm-pattern.ensures ∙ ap (normed d.input) c.l2_norm-norm.ensures ∙ sym (code_norm d (fits)) in
     let n = c in
     let s = n in
     code_refused (call-of) c.in-Refused-pattern.refusal s.args.output.now (zeros) s.args.work.now
@@ -59,15 +58,15 @@ returns-in-Refused-pattern c =
 pub returns-in-Bits : goal.returns-in-Bits
 returns-in-Bits c =
     let call-of : EncodeCall =
-        let a = c.args in
-            encode_call a.profile a.schema.now a.rotation_algorithm.now a.log2 a.matrix.now a.codewords.now a.input.now (length a.output.now) (length a.work.now) in
+    let a = c.args in
+    encode_call a.profile a.schema.now a.rotation_algorithm.now a.log2 a.matrix.now a.codewords.now a.input.now (length a.output.now) (length a.work.now) in
     let fits : fitting (call-of) ≡ completed tt =
-        sym c.check_call-checks.ensures ∙ ap checked c.in_default.is in
+    sym c.check_call-checks.ensures ∙ ap checked c.in_default.is in
     let coded : bits_of c.check_norm-pattern.result ≡ codable (call-of) =
-        let d = call-of in
-            c.check_norm-pattern.ensures ∙ ap (normed d.input) c.l2_norm-norm.ensures ∙ sym (code_norm d (fits)) in
+    let d = call-of in
+    c.check_norm-pattern.ensures ∙ ap (normed d.input) c.l2_norm-norm.ensures ∙ sym (code_norm d (fits)) in
     let zeros : List Float =
-        replicate (length c.args.work.now) plus_zero in
+    replicate (length c.args.work.now) plus_zero in
     let k = c in
     let n = k in
     let s = n in

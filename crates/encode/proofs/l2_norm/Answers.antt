@@ -1,10 +1,9 @@
 -- `encode::l2_norm` meets its contract: the sum is that of the squares passed. Assumes nothing.
-use mathlib.Core.Path.{◌≡◌, refl, sym, ap, ◌∙◌}
-use Prim.Native.Nat.{ℕ, ◌≤◌, ◌-◌}
+use mathlib.Core.Path.{◌≡◌, refl, ap, ◌∙◌}
 use native.Mathlib.Omega.{arith}
 use native.Mathlib.Numerals.{add-one}
 use lib.ListN.{length}
-use lib.Ieee.{Float, of_bits, binary64}
+use lib.Ieee.{of_bits, binary64}
 use Rattle.ieee.specs.Sum.{sum_to}
 use Rattle.root.specs.Sqrt.{sqrt_of}
 use Rattle.encode.specs.Encode.{square_at, norm_of}

@@ -1,13 +1,12 @@
 -- `encode::normalize` meets its contract: the places passed hold the quotients. Assumes nothing.
-use mathlib.Core.Path.{◌≡◌, refl, sym, ap, ◌∙◌}
-use Prim.Native.Nat.{ℕ, ◌≤◌, ◌-◌}
+use mathlib.Core.Path.{◌≡◌, refl, ap, ◌∙◌}
+use Prim.Native.Nat.{ℕ}
 use native.Mathlib.Omega.{arith}
 use lib.ListN.{length, length-set}
 use lib.Ieee.{Float, binary64, div}
 use Rattle.slices.specs.Lists.{patched}
 use Rattle.slices.proofs.ListLaw.{patched_more}
 use Rattle.encode.specs.Encode.{normalized_at}
-use borrow.Author.Rules.{rules}
 use Rattle.encode.proofs.normalize.Goals as goal
 
 pub loop-i-init : goal.loop-i-init

@@ -1,12 +1,8 @@
-use mathlib.Core.Path.{◌≡◌, refl, sym, ap, ◌∙◌}
-use Prim.Native.Nat.{ℕ, ◌≤◌, ◌-◌}
-use native.Mathlib.Omega.{arith}
-use lib.ListN.{length, length-set}
-use lib.Ieee.{Float, binary64, div}
+use mathlib.Core.Path.{◌≡◌}
+use Prim.Native.Nat.{◌≤◌, ◌-◌}
+use lib.ListN.{length}
 use Rattle.slices.specs.Lists.{patched}
-use Rattle.slices.proofs.ListLaw.{patched_more}
 use Rattle.encode.specs.Encode.{normalized_at}
-use borrow.Author.Rules.{rules}
 use Rattle.encode.proofs.normalize.Given as goal
 
 abbrev pub invariant-loop-i : goal.invariant-loop-i

@@ -1,10 +1,9 @@
 -- `encode::round_half` meets its contract: the places passed hold the rounded values. Assumes nothing.
-use mathlib.Core.Path.{◌≡◌, refl, sym, ap, ◌∙◌}
-use mathlib.Core.List.{List}
-use Prim.Native.Nat.{ℕ, ◌+◌, ◌≤◌, ◌-◌}
+use mathlib.Core.Path.{◌≡◌, refl, ap, ◌∙◌}
+use Prim.Native.Nat.{ℕ, ◌+◌}
 use native.Mathlib.Omega.{arith}
-use lib.ListN.{length, get_or, length-set}
-use lib.Ieee.{Float, nan, binary32}
+use lib.ListN.{length-set}
+use lib.Ieee.{nan, binary32}
 use Rattle.slices.specs.Lists.{patched}
 use Rattle.slices.proofs.ListLaw.{patched_more, patched_next}
 use Rattle.narrow.specs.Pack.{narrow_to}

@@ -1,13 +1,10 @@
-use mathlib.Core.Path.{◌≡◌, refl, sym, ap, ◌∙◌}
+use mathlib.Core.Path.{◌≡◌}
 use mathlib.Core.List.{List}
 use Prim.Native.Nat.{ℕ, ◌+◌, ◌≤◌, ◌-◌}
-use native.Mathlib.Omega.{arith}
-use lib.ListN.{length, get_or, length-set}
+use lib.ListN.{length, get_or}
 use lib.Ieee.{Float, nan, binary32}
 use Rattle.slices.specs.Lists.{patched}
-use Rattle.slices.proofs.ListLaw.{patched_more, patched_next}
 use Rattle.narrow.specs.Pack.{narrow_to}
-use borrow.Author.Rules.{rules}
 use Rattle.encode.proofs.round_half.Given as goal
 
 abbrev pub rounded : List Float → ℕ → ℕ → Float

@@ -16,21 +16,20 @@ use Rattle.bitpack.specs.Layout.{packed_bytes}
 use Rattle.compact.specs.Frame.{bytes_of, frame_of}
 use Rattle.encode.specs.Encode.{norm_of, searched_at, searched, indices_for, tied_for, tied_blocks}
 use Rattle.encode.proofs.EncodeLaw.{seen}
-use borrow.Author.Rules.{rules}
 use Rattle.encode.proofs.write_code.Goals as goal
 
 pub write_frame-tied_blocks-requires : goal.write_frame-tied_blocks-requires
 write_frame-tied_blocks-requires c =
     let values : let a = c.args in let w = c.round_half.new.work in
-            take (length w - length a.input.now) (drop (length a.input.now) w) ≡ searched (length a.input.now) a.matrix.now a.input.now a.norm =
-        let s = c in
-            let a = s.args in
-            let r₁ = c.normalize in
-            let r₂ = c.rotate_within in
-            let r₃ = c.round_half in
-            let d = length a.input.now in
-            take_all (length r₃.new.work - d) (drop d r₃.new.work) (rw (length-drop d r₃.new.work) (omega arith))
-            ∙ seen d a.matrix.now a.input.now a.norm a.work.now r₁.new.work r₂.new.work r₃.new.work d refl s.requires.0.halves r₁.ensures r₂.ensures r₃.ensures in
+    take (length w - length a.input.now) (drop (length a.input.now) w) ≡ searched (length a.input.now) a.matrix.now a.input.now a.norm =
+    let s = c in
+    let a = s.args in
+    let r₁ = c.normalize in
+    let r₂ = c.rotate_within in
+    let r₃ = c.round_half in
+    let d = length a.input.now in
+    take_all (length r₃.new.work - d) (drop d r₃.new.work) (rw (length-drop d r₃.new.work) (omega arith))
+    ∙ seen d a.matrix.now a.input.now a.norm a.work.now r₁.new.work r₂.new.work r₃.new.work d refl s.requires.0.halves r₁.ensures r₂.ensures r₃.ensures in
     let s = c in
     let a = s.args in
     let q = s.requires.0 in (
@@ -50,29 +49,29 @@ write_frame-tied_blocks-requires c =
 pub returns : goal.returns
 returns c =
     let values : let a = c.args in let w = c.round_half.new.work in
-            take (length w - length a.input.now) (drop (length a.input.now) w) ≡ searched (length a.input.now) a.matrix.now a.input.now a.norm =
-        let s = c in
-            let a = s.args in
-            let r₁ = c.normalize in
-            let r₂ = c.rotate_within in
-            let r₃ = c.round_half in
-            let d = length a.input.now in
-            take_all (length r₃.new.work - d) (drop d r₃.new.work) (rw (length-drop d r₃.new.work) (omega arith))
-            ∙ seen d a.matrix.now a.input.now a.norm a.work.now r₁.new.work r₂.new.work r₃.new.work d refl s.requires.0.halves r₁.ensures r₂.ensures r₃.ensures in
+    take (length w - length a.input.now) (drop (length a.input.now) w) ≡ searched (length a.input.now) a.matrix.now a.input.now a.norm =
+    let s = c in
+    let a = s.args in
+    let r₁ = c.normalize in
+    let r₂ = c.rotate_within in
+    let r₃ = c.round_half in
+    let d = length a.input.now in
+    take_all (length r₃.new.work - d) (drop d r₃.new.work) (rw (length-drop d r₃.new.work) (omega arith))
+    ∙ seen d a.matrix.now a.input.now a.norm a.work.now r₁.new.work r₂.new.work r₃.new.work d refl s.requires.0.halves r₁.ensures r₂.ensures r₃.ensures in
     let seen_by : let s = c in
-            let a = s.args in
-            let w = c.round_half.new.work in
-            take (length w - length a.input.now) (drop (length a.input.now) w) ≡ searched a.profile.ambient_dim a.matrix.now a.input.now (norm_of a.input.now) =
-        let s = c in
-            let a = s.args in
-            values ∙ ap (λ (d : ℕ). searched d a.matrix.now a.input.now a.norm) s.requires.0.whole ∙ ap (searched a.profile.ambient_dim a.matrix.now a.input.now) s.requires.2 in
+    let a = s.args in
+    let w = c.round_half.new.work in
+    take (length w - length a.input.now) (drop (length a.input.now) w) ≡ searched a.profile.ambient_dim a.matrix.now a.input.now (norm_of a.input.now) =
+    let s = c in
+    let a = s.args in
+    values ∙ ap (λ (d : ℕ). searched d a.matrix.now a.input.now a.norm) s.requires.0.whole ∙ ap (searched a.profile.ambient_dim a.matrix.now a.input.now) s.requires.2 in
     let same : length c.round_half.new.work ≡ length c.args.work.now =
-        c.round_half.auto.work ∙ c.rotate_within.auto.work ∙ c.normalize.auto.work in
+    c.round_half.auto.work ∙ c.rotate_within.auto.work ∙ c.normalize.auto.work in
     let counted : let a = c.args in
-            c.write_frame-tied_blocks.result ≡ tied_blocks a.profile a.matrix.now a.codewords.now a.input.now =
-        let a = c.args in
-            let p = a.profile in
-            c.write_frame-tied_blocks.ensures.1 ∙ ap (λ (xs : List Float). count_where (tied_for p.block_dim p.codebook_size a.codewords.now xs) (p.ambient_dim / p.block_dim)) (seen_by) in
+    c.write_frame-tied_blocks.result ≡ tied_blocks a.profile a.matrix.now a.codewords.now a.input.now =
+    let a = c.args in
+    let p = a.profile in
+    c.write_frame-tied_blocks.ensures.1 ∙ ap (λ (xs : List Float). count_where (tied_for p.block_dim p.codebook_size a.codewords.now xs) (p.ambient_dim / p.block_dim)) (seen_by) in
     let w = c in
     let f = w in
     let s = f in
@@ -88,28 +87,28 @@ returns c =
 pub overflow_cast-result : goal.overflow_cast-result
 overflow_cast-result c =
     let values : let a = c.args in let w = c.round_half.new.work in
-            take (length w - length a.input.now) (drop (length a.input.now) w) ≡ searched (length a.input.now) a.matrix.now a.input.now a.norm =
-        let s = c in
-            let a = s.args in
-            let r₁ = c.normalize in
-            let r₂ = c.rotate_within in
-            let r₃ = c.round_half in
-            let d = length a.input.now in
-            take_all (length r₃.new.work - d) (drop d r₃.new.work) (rw (length-drop d r₃.new.work) (omega arith))
-            ∙ seen d a.matrix.now a.input.now a.norm a.work.now r₁.new.work r₂.new.work r₃.new.work d refl s.requires.0.halves r₁.ensures r₂.ensures r₃.ensures in
+    take (length w - length a.input.now) (drop (length a.input.now) w) ≡ searched (length a.input.now) a.matrix.now a.input.now a.norm =
+    let s = c in
+    let a = s.args in
+    let r₁ = c.normalize in
+    let r₂ = c.rotate_within in
+    let r₃ = c.round_half in
+    let d = length a.input.now in
+    take_all (length r₃.new.work - d) (drop d r₃.new.work) (rw (length-drop d r₃.new.work) (omega arith))
+    ∙ seen d a.matrix.now a.input.now a.norm a.work.now r₁.new.work r₂.new.work r₃.new.work d refl s.requires.0.halves r₁.ensures r₂.ensures r₃.ensures in
     let seen_by : let s = c in
-            let a = s.args in
-            let w = c.round_half.new.work in
-            take (length w - length a.input.now) (drop (length a.input.now) w) ≡ searched a.profile.ambient_dim a.matrix.now a.input.now (norm_of a.input.now) =
-        let s = c in
-            let a = s.args in
-            values ∙ ap (λ (d : ℕ). searched d a.matrix.now a.input.now a.norm) s.requires.0.whole ∙ ap (searched a.profile.ambient_dim a.matrix.now a.input.now) s.requires.2 in
+    let a = s.args in
+    let w = c.round_half.new.work in
+    take (length w - length a.input.now) (drop (length a.input.now) w) ≡ searched a.profile.ambient_dim a.matrix.now a.input.now (norm_of a.input.now) =
+    let s = c in
+    let a = s.args in
+    values ∙ ap (λ (d : ℕ). searched d a.matrix.now a.input.now a.norm) s.requires.0.whole ∙ ap (searched a.profile.ambient_dim a.matrix.now a.input.now) s.requires.2 in
     let counted : let a = c.args in
-            c.write_frame-tied_blocks.result ≡ tied_blocks a.profile a.matrix.now a.codewords.now a.input.now =
-        let a = c.args in
-            let p = a.profile in
-            c.write_frame-tied_blocks.ensures.1 ∙ ap (λ (xs : List Float). count_where (tied_for p.block_dim p.codebook_size a.codewords.now xs) (p.ambient_dim / p.block_dim)) (seen_by) in
+    c.write_frame-tied_blocks.result ≡ tied_blocks a.profile a.matrix.now a.codewords.now a.input.now =
+    let a = c.args in
+    let p = a.profile in
+    c.write_frame-tied_blocks.ensures.1 ∙ ap (λ (xs : List Float). count_where (tied_for p.block_dim p.codebook_size a.codewords.now xs) (p.ambient_dim / p.block_dim)) (seen_by) in
     let w = c in
     let s = w in
     let p = s.args.profile in
-    record { fits = omega (arith, counted, count_upto (tied_for p.block_dim p.codebook_size s.args.codewords.now (searched p.ambient_dim s.args.matrix.now s.args.input.now (norm_of s.args.input.now))) (p.ambient_dim / p.block_dim), div-le_self p.ambient_dim p.block_dim, w.struct_known.given) }
+    record { fits = omega (arith, counted, count_upto (tied_for p.block_dim p.codebook_size s.args.codewords.now (searched p.ambient_dim s.args.matrix.now s.args.input.now (norm_of s.args.input.now))) (p.ambient_dim / p.block_dim), div-le_self p.ambient_dim p.block_dim) }

@@ -1,5 +1,5 @@
 -- `encode::write_frame` meets its contract: the first 13 bytes, and the packed indices after them. Assumes nothing.
-use mathlib.Core.Path.{◌≡◌, refl, sym, ap, ◌∙◌}
+use mathlib.Core.Path.{◌≡◌, sym, ap, ◌∙◌}
 use mathlib.Core.List.{List, ◌++◌}
 use Prim.Native.Nat.{ℕ, ◌-◌, ◌≤◌}
 use native.Mathlib.Omega.{arith}
@@ -9,7 +9,6 @@ use borrow.Rule.Slice.PartMut.{put_mid}
 use Rattle.compact.specs.Frame.{bytes_of, header, frame_of}
 use Rattle.compact.proofs.FrameLaws.{length-header}
 use Rattle.rotation.proofs.HalfLaw.{put_after}
-use borrow.Author.Rules.{rules}
 use Rattle.encode.proofs.write_frame.Goals as goal
 
 -- the part from 13 on

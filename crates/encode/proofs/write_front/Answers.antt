@@ -1,13 +1,12 @@
 -- `encode::write_front` meets its contract: the header, and then the two bytes. Assumes nothing.
-use mathlib.Core.Path.{◌≡◌, refl, sym, ap, ◌∙◌}
+use mathlib.Core.Path.{◌≡◌, sym, ap, ◌∙◌}
 use mathlib.Core.List.{List, [], ◌∷◌, ◌++◌}
-use Prim.Native.Nat.{ℕ, ◌+◌, ◌%◌, ◌/◌, ◌<◌}
+use Prim.Native.Nat.{ℕ, ◌%◌, ◌/◌, ◌<◌}
 use native.Mathlib.Omega.{arith}
 use lib.ListN.{length, take, drop}
 use lib.Seq.{take_at, drop_at, drop-drop}
 use Rattle.compact.specs.Frame.{bytes_of, header}
 use Rattle.compact.proofs.FrameLaws.{length-header}
-use borrow.Author.Rules.{rules}
 use Rattle.encode.proofs.write_front.Goals as goal
 
 -- two bytes put behind the header
