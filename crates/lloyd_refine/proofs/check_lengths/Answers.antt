@@ -2,7 +2,6 @@
 use Prim.Native.Nat.{◌-◌, ◌*◌, ◌≤◌}
 use native.Mathlib.Nat.{mul-le-mul}
 use native.Mathlib.Omega.{arith}
-use borrow.Author.Rules.{rules}
 use borrow.Author.Tests.{eq-eqb, ne_eqb, le-leb, lt-leb}
 use Rattle.profile.specs.declared.FibQuantProfile.{FibQuantProfile}
 use Rattle.lloyd_refine.specs.Refine.{length_checks}
@@ -22,16 +21,16 @@ overflow_sub-later c = omega (arith, c.requires.settings.restarts_least)
 pub overflow_mul-n : goal.overflow_mul-n
 overflow_mul-n c =
     let small : Small c.args.profile =
-        let v = c.requires in
-            let k = v.shape.block_most in
-            let r : c.args.profile.lloyd_restarts - 1 ≤ 1024 = omega (arith, v.settings.restarts_most) in
-            record {
-              values = v.values_most;
-              codewords = v.shape.book_most;
-              coordinates = mul-le-mul v.settings.samples_most k;
-              square = mul-le-mul k k;
-              matrices = mul-le-mul r (mul-le-mul k k);
-            } in
+    let v = c.requires in
+    let k = v.shape.block_most in
+    let r : c.args.profile.lloyd_restarts - 1 ≤ 1024 = omega (arith, v.settings.restarts_most) in
+    record {
+      values = v.values_most;
+      codewords = v.shape.book_most;
+      coordinates = mul-le-mul v.settings.samples_most k;
+      square = mul-le-mul k k;
+      matrices = mul-le-mul r (mul-le-mul k k);
+    } in
     record { fits = omega (arith, small) }
 
 pub returns-then-initial-n : goal.returns-then-initial-n
@@ -41,16 +40,16 @@ returns-then-initial-n c = rw (ne_eqb _ _ c.if-initial-n.true)
 pub overflow_mul-count : goal.overflow_mul-count
 overflow_mul-count c =
     let small : Small c.args.profile =
-        let v = c.requires in
-            let k = v.shape.block_most in
-            let r : c.args.profile.lloyd_restarts - 1 ≤ 1024 = omega (arith, v.settings.restarts_most) in
-            record {
-              values = v.values_most;
-              codewords = v.shape.book_most;
-              coordinates = mul-le-mul v.settings.samples_most k;
-              square = mul-le-mul k k;
-              matrices = mul-le-mul r (mul-le-mul k k);
-            } in
+    let v = c.requires in
+    let k = v.shape.block_most in
+    let r : c.args.profile.lloyd_restarts - 1 ≤ 1024 = omega (arith, v.settings.restarts_most) in
+    record {
+      values = v.values_most;
+      codewords = v.shape.book_most;
+      coordinates = mul-le-mul v.settings.samples_most k;
+      square = mul-le-mul k k;
+      matrices = mul-le-mul r (mul-le-mul k k);
+    } in
     record { fits = omega (arith, small) }
 
 pub returns-then-samples-count : goal.returns-then-samples-count
@@ -60,31 +59,31 @@ returns-then-samples-count c = rw (eq-eqb _ _ c.if-initial-n.false, ne_eqb _ _ c
 pub overflow_mul-k : goal.overflow_mul-k
 overflow_mul-k c =
     let small : Small c.args.profile =
-        let v = c.requires in
-            let k = v.shape.block_most in
-            let r : c.args.profile.lloyd_restarts - 1 ≤ 1024 = omega (arith, v.settings.restarts_most) in
-            record {
-              values = v.values_most;
-              codewords = v.shape.book_most;
-              coordinates = mul-le-mul v.settings.samples_most k;
-              square = mul-le-mul k k;
-              matrices = mul-le-mul r (mul-le-mul k k);
-            } in
+    let v = c.requires in
+    let k = v.shape.block_most in
+    let r : c.args.profile.lloyd_restarts - 1 ≤ 1024 = omega (arith, v.settings.restarts_most) in
+    record {
+      values = v.values_most;
+      codewords = v.shape.book_most;
+      coordinates = mul-le-mul v.settings.samples_most k;
+      square = mul-le-mul k k;
+      matrices = mul-le-mul r (mul-le-mul k k);
+    } in
     record { fits = omega (arith, small) }
 
 pub overflow_mul-later : goal.overflow_mul-later
 overflow_mul-later c =
     let small : Small c.args.profile =
-        let v = c.requires in
-            let k = v.shape.block_most in
-            let r : c.args.profile.lloyd_restarts - 1 ≤ 1024 = omega (arith, v.settings.restarts_most) in
-            record {
-              values = v.values_most;
-              codewords = v.shape.book_most;
-              coordinates = mul-le-mul v.settings.samples_most k;
-              square = mul-le-mul k k;
-              matrices = mul-le-mul r (mul-le-mul k k);
-            } in
+    let v = c.requires in
+    let k = v.shape.block_most in
+    let r : c.args.profile.lloyd_restarts - 1 ≤ 1024 = omega (arith, v.settings.restarts_most) in
+    record {
+      values = v.values_most;
+      codewords = v.shape.book_most;
+      coordinates = mul-le-mul v.settings.samples_most k;
+      square = mul-le-mul k k;
+      matrices = mul-le-mul r (mul-le-mul k k);
+    } in
     record { fits = omega (arith, small) }
 
 pub returns-then-matrices-later : goal.returns-then-matrices-later
@@ -94,16 +93,16 @@ returns-then-matrices-later c = rw (eq-eqb _ _ c.if-initial-n.false, eq-eqb _ _ 
 pub overflow_mul-n-2 : goal.overflow_mul-n-2
 overflow_mul-n-2 c =
     let small : Small c.args.profile =
-        let v = c.requires in
-            let k = v.shape.block_most in
-            let r : c.args.profile.lloyd_restarts - 1 ≤ 1024 = omega (arith, v.settings.restarts_most) in
-            record {
-              values = v.values_most;
-              codewords = v.shape.book_most;
-              coordinates = mul-le-mul v.settings.samples_most k;
-              square = mul-le-mul k k;
-              matrices = mul-le-mul r (mul-le-mul k k);
-            } in
+    let v = c.requires in
+    let k = v.shape.block_most in
+    let r : c.args.profile.lloyd_restarts - 1 ≤ 1024 = omega (arith, v.settings.restarts_most) in
+    record {
+      values = v.values_most;
+      codewords = v.shape.book_most;
+      coordinates = mul-le-mul v.settings.samples_most k;
+      square = mul-le-mul k k;
+      matrices = mul-le-mul r (mul-le-mul k k);
+    } in
     record { fits = omega (arith, small) }
 
 pub returns-then-codewords-n : goal.returns-then-codewords-n
@@ -113,61 +112,61 @@ returns-then-codewords-n c = rw (eq-eqb _ _ c.if-initial-n.false, eq-eqb _ _ c.i
 pub overflow_mul-n-3 : goal.overflow_mul-n-3
 overflow_mul-n-3 c =
     let small : Small c.args.profile =
-        let v = c.requires in
-            let k = v.shape.block_most in
-            let r : c.args.profile.lloyd_restarts - 1 ≤ 1024 = omega (arith, v.settings.restarts_most) in
-            record {
-              values = v.values_most;
-              codewords = v.shape.book_most;
-              coordinates = mul-le-mul v.settings.samples_most k;
-              square = mul-le-mul k k;
-              matrices = mul-le-mul r (mul-le-mul k k);
-            } in
+    let v = c.requires in
+    let k = v.shape.block_most in
+    let r : c.args.profile.lloyd_restarts - 1 ≤ 1024 = omega (arith, v.settings.restarts_most) in
+    record {
+      values = v.values_most;
+      codewords = v.shape.book_most;
+      coordinates = mul-le-mul v.settings.samples_most k;
+      square = mul-le-mul k k;
+      matrices = mul-le-mul r (mul-le-mul k k);
+    } in
     record { fits = omega (arith, small) }
 
 pub overflow_mul-n-4 : goal.overflow_mul-n-4
 overflow_mul-n-4 c =
     let small : Small c.args.profile =
-        let v = c.requires in
-            let k = v.shape.block_most in
-            let r : c.args.profile.lloyd_restarts - 1 ≤ 1024 = omega (arith, v.settings.restarts_most) in
-            record {
-              values = v.values_most;
-              codewords = v.shape.book_most;
-              coordinates = mul-le-mul v.settings.samples_most k;
-              square = mul-le-mul k k;
-              matrices = mul-le-mul r (mul-le-mul k k);
-            } in
+    let v = c.requires in
+    let k = v.shape.block_most in
+    let r : c.args.profile.lloyd_restarts - 1 ≤ 1024 = omega (arith, v.settings.restarts_most) in
+    record {
+      values = v.values_most;
+      codewords = v.shape.book_most;
+      coordinates = mul-le-mul v.settings.samples_most k;
+      square = mul-le-mul k k;
+      matrices = mul-le-mul r (mul-le-mul k k);
+    } in
     record { fits = omega (arith, small) }
 
 pub overflow_mul-n-5 : goal.overflow_mul-n-5
 overflow_mul-n-5 c =
     let small : Small c.args.profile =
-        let v = c.requires in
-            let k = v.shape.block_most in
-            let r : c.args.profile.lloyd_restarts - 1 ≤ 1024 = omega (arith, v.settings.restarts_most) in
-            record {
-              values = v.values_most;
-              codewords = v.shape.book_most;
-              coordinates = mul-le-mul v.settings.samples_most k;
-              square = mul-le-mul k k;
-              matrices = mul-le-mul r (mul-le-mul k k);
-            } in
+    let v = c.requires in
+    let k = v.shape.block_most in
+    let r : c.args.profile.lloyd_restarts - 1 ≤ 1024 = omega (arith, v.settings.restarts_most) in
+    record {
+      values = v.values_most;
+      codewords = v.shape.book_most;
+      coordinates = mul-le-mul v.settings.samples_most k;
+      square = mul-le-mul k k;
+      matrices = mul-le-mul r (mul-le-mul k k);
+    } in
     record { fits = omega (arith, small) }
 
 pub overflow_add-n : goal.overflow_add-n
 overflow_add-n c =
     let small : Small c.args.profile =
-        let v = c.requires in
-            let k = v.shape.block_most in
-            let r : c.args.profile.lloyd_restarts - 1 ≤ 1024 = omega (arith, v.settings.restarts_most) in
-            record {
-              values = v.values_most;
-              codewords = v.shape.book_most;
-              coordinates = mul-le-mul v.settings.samples_most k;
-              square = mul-le-mul k k;
-              matrices = mul-le-mul r (mul-le-mul k k);
-            } in
+    let v = c.requires in
+    let k = v.shape.block_most in
+    let r : c.args.profile.lloyd_restarts - 1 ≤ 1024 = omega (arith, v.settings.restarts_most) in
+    record {
+      values = v.values_most;
+      codewords = v.shape.book_most;
+      coordinates = mul-le-mul v.settings.samples_most k;
+      square = mul-le-mul k k;
+      matrices = mul-le-mul r (mul-le-mul k k);
+    } in
     record { fits = omega (arith, small) }
 
 pub returns-then-floats-n : goal.returns-then-floats-n
@@ -177,16 +176,16 @@ returns-then-floats-n c = rw (eq-eqb _ _ c.if-initial-n.false, eq-eqb _ _ c.if-s
 pub overflow_mul-n-6 : goal.overflow_mul-n-6
 overflow_mul-n-6 c =
     let small : Small c.args.profile =
-        let v = c.requires in
-            let k = v.shape.block_most in
-            let r : c.args.profile.lloyd_restarts - 1 ≤ 1024 = omega (arith, v.settings.restarts_most) in
-            record {
-              values = v.values_most;
-              codewords = v.shape.book_most;
-              coordinates = mul-le-mul v.settings.samples_most k;
-              square = mul-le-mul k k;
-              matrices = mul-le-mul r (mul-le-mul k k);
-            } in
+    let v = c.requires in
+    let k = v.shape.block_most in
+    let r : c.args.profile.lloyd_restarts - 1 ≤ 1024 = omega (arith, v.settings.restarts_most) in
+    record {
+      values = v.values_most;
+      codewords = v.shape.book_most;
+      coordinates = mul-le-mul v.settings.samples_most k;
+      square = mul-le-mul k k;
+      matrices = mul-le-mul r (mul-le-mul k k);
+    } in
     record { fits = omega (arith, small) }
 
 pub returns-then-integers-n : goal.returns-then-integers-n

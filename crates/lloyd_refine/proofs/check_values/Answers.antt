@@ -1,6 +1,5 @@
 -- `lloyd_refine::check_values` meets its contract: the first value outside the limit is shown. Assumes nothing.
 use lib.Ieee.{of_bits}
-use borrow.Author.Rules.{rules}
 use Rattle.lloyd_refine.proofs.check_values.Goals as goal
 
 pub returns-in-Nowhere : goal.returns-in-Nowhere

@@ -1,5 +1,4 @@
 -- `lloyd_refine::is_below` meets its contract, by the winner. Assumes nothing.
-use borrow.Author.Rules.{rules}
 use Rattle.lloyd_refine.proofs.is_below.Goals as goal
 
 pub returns-in-Restart : goal.returns-in-Restart

@@ -1,6 +1,5 @@
 -- `lloyd_refine::paused` meets its contract, by the turn. Assumes nothing.
 use mathlib.Core.Path.{refl, ap, ◌∙◌}
-use borrow.Author.Rules.{rules}
 use Rattle.lloyd_refine.specs.declared.Refinement.TheVariants.{Report}
 use Rattle.lloyd_refine.proofs.paused.Goals as goal
 

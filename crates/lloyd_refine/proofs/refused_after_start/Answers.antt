@@ -1,7 +1,6 @@
 -- `lloyd_refine::refused_after_start` meets its contract, by the answer. Assumes nothing.
 use mathlib.Core.Path.{◌≡◌, refl, ap}
 use mathlib.Core.Bool.{Bool, true, false, ◌&&◌}
-use borrow.Author.Rules.{rules}
 use Rattle.lloyd_refine.specs.Pauses.{is_report}
 use Rattle.lloyd_refine.proofs.refused_after_start.Goals as goal
 

@@ -2,7 +2,6 @@
 -- repairs says where it leaves the refinement. Assumes nothing.
 use mathlib.Core.Path.{◌≡◌, sym, ap, subst}
 use mathlib.Core.List.{◌++◌}
-use borrow.Author.Rules.{rules}
 use Rattle.profile.specs.declared.FibQuantProfile.{FibQuantProfile}
 use Rattle.lloyd_cells.specs.declared.Places.{Places}
 use Rattle.lloyd_cells.specs.Work.{Kept}
@@ -39,6 +38,9 @@ returns c =
     let n = c in
     let a = c.args in
     let p = c.places.result in
-    let e = c.places.ensures in record { stands = λ j b t u same h. by_job j (λ (z : Job). InRound z b t u a.s a.work.now a.ints.now → Pausing z (t.events ++ u.events) n.repair_next-turn.new.work n.repair_next-turn.new.ints c.paused.result) same
+    let e = c.places.ensures in record {
+      stands = λ j b t u same h. by_job j (λ (z : Job). InRound z b t u a.s a.work.now a.ints.now → Pausing z (t.events ++ u.events) n.repair_next-turn.new.work n.repair_next-turn.new.ints c.paused.result) same
           (λ g. turned g n.repair_next-turn.new.work n.repair_next-turn.new.ints (subst (λ (z : Places). Kept z a.profile.codebook_size a.profile.block_dim a.work.now n.repair_next-turn.new.work) e n.repair_next-turn.ensures.kept) n.repair_next-turn.auto.ints n.repair_next-turn.result c.paused.result c.paused.ensures
-          (of_turn g p e n.repair_next-turn.new.work n.repair_next-turn.new.ints n.repair_next-turn.result (n.repair_next-turn.ensures.turned _ _ u (sym g.made) (to_turn g p e)))) h; round = same_round a.profile a.s n.repair_next-turn.result c.paused.result c.paused.ensures }
+          (of_turn g p e n.repair_next-turn.new.work n.repair_next-turn.new.ints n.repair_next-turn.result (n.repair_next-turn.ensures.turned _ _ u (sym g.made) (to_turn g p e)))) h;
+      round = same_round a.profile a.s n.repair_next-turn.result c.paused.result c.paused.ensures;
+    }

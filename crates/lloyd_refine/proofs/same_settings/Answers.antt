@@ -1,5 +1,4 @@
 -- `lloyd_refine::same_settings` meets its contract: the settings, one after another. Assumes nothing.
-use borrow.Author.Rules.{rules}
 use borrow.Author.Tests.{eq-eqb, ne_eqb}
 use Rattle.lloyd_refine.proofs.same_settings.Goals as goal
 
