@@ -65,14 +65,6 @@ offset_bounds-codewords-at c =
     row_fits c.loop-i.i a.n (length a.block.now) c.loop-i.at (length a.codewords.now) c.loop-i-test.true c.loop-i.invariant.1 c.requires in
     record { fits = omega (arith, inside, c.well_formed.0.1) }
 
--- GONE
--- part-squared-distance-end : tie.Need-slice-bounds-squared-distance-end invariant-loop decreases-loop
--- part-squared-distance-end c =
---     let inside : c.before.loop.at + length c.before.before.before.before.before.before.before.before.before.args.block.now ≤ length c.before.before.before.before.before.before.before.before.before.args.codewords.now =
---         let a = c.before.before.before.before.before.before.before.before.before.args in
---             row_fits c.before.loop.i a.n (length a.block.now) c.before.loop.at (length a.codewords.now) c.loop-test.true c.before.loop.invariant.1 c.before.before.before.before.before.before.before.before.before.requires in
---     inside
-
 pub squared_distance-distance-requires : goal.squared_distance-distance-requires
 squared_distance-distance-requires c =
     let inside : c.loop-i.at + length c.args.block.now ≤ length c.args.codewords.now =

@@ -24,13 +24,6 @@ offset_bounds-initial-at c =
     let a = c.args in omega (arith, c.loop-c.invariant.1, c.requires.1, mul-le-mul_right a.k c.loop-c-test.true, end_inside c.loop-c.c a.k c.loop-c.at _ c.loop-c.invariant.1 refl) in
     record { fits = omega (arith, inside, c.well_formed.1.0.1) }
 
--- GONE
--- part-rotate-end : tie.Need-slice-bounds-rotate-end invariant-loop decreases-loop
--- part-rotate-end c =
---     let inside : c.before.loop.at + c.before.before.before.before.before.args.k ≤ length c.before.before.before.before.before.args.initial.now =
---         let a = c.before.before.before.before.before.args in omega (arith, c.before.loop.invariant.1, c.before.before.before.before.before.requires.1, mul-le-mul_right a.k c.loop-test.true, end_inside c.before.loop.c a.k c.before.loop.at _ c.before.loop.invariant.1 refl) in
---     inside
-
 pub offset_bounds-work-at : goal.offset_bounds-work-at
 offset_bounds-work-at c =
     let inside : c.loop-c.at + c.args.k ≤ length c.args.initial.now =
@@ -38,15 +31,6 @@ offset_bounds-work-at c =
     let within : c.loop-c.at + c.args.k ≤ length c.args.work.now =
     omega (arith, inside, c.requires.1, c.requires.2) in
     record { fits = omega (arith, within, c.well_formed.1.1.0.1, c.loop-c.invariant.2.size) }
-
--- GONE
--- part-rotate-end-2 : tie.Need-slice-bounds-rotate-end-2 invariant-loop decreases-loop
--- part-rotate-end-2 c =
---     let inside : c.before.loop.at + c.before.before.before.before.before.args.k ≤ length c.before.before.before.before.before.args.initial.now =
---         let a = c.before.before.before.before.before.args in omega (arith, c.before.loop.invariant.1, c.before.before.before.before.before.requires.1, mul-le-mul_right a.k c.loop-test.true, end_inside c.before.loop.c a.k c.before.loop.at _ c.before.loop.invariant.1 refl) in
---     let within : c.before.loop.at + c.before.before.before.before.before.args.k ≤ length c.before.before.before.before.before.args.work.now =
---         omega (arith, inside, c.before.before.before.before.before.requires.1, c.before.before.before.before.before.requires.2) in
---     omega (arith, within, c.before.before.loop.invariant.2.size)
 
 pub rotate-requires : goal.rotate-requires
 rotate-requires c =

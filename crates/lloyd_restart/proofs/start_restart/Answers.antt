@@ -41,13 +41,6 @@ offset_bounds-matrices-from c =
     last_matrix c.args.restart (c.args.k * c.args.k) (length c.args.matrices.now) c.requires.0 c.requires.1 in
     record { fits = omega (arith, fits, c.well_formed.1.0.1) }
 
--- GONE
--- part-rotate-words-end : tie.Need-slice-bounds-rotate-words-end
--- part-rotate-words-end c =
---     let fits : (c.args.restart - 1) * (c.args.k * c.args.k) + c.args.k * c.args.k ≤ length c.args.matrices.now =
---         last_matrix c.args.restart (c.args.k * c.args.k) (length c.args.matrices.now) c.requires.0 c.requires.1 in
---     omega (arith, fits)
-
 pub rotate_words-requires : goal.rotate_words-requires
 rotate_words-requires c =
     let fits : (c.args.restart - 1) * (c.args.k * c.args.k) + c.args.k * c.args.k ≤ length c.args.matrices.now =

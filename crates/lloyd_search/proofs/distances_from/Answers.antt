@@ -57,15 +57,6 @@ offset_bounds-codewords-at c =
     omega (arith, c.requires, add-mul c.args.index 4 (length c.args.block.now)) in
     record { fits = omega (arith, inside, c.well_formed.0.1) }
 
--- GONE
--- part-four-distances-end : tie.Need-slice-bounds-four-distances-end
--- part-four-distances-end c =
---     let inside : let a = c.args in
---             let k = length a.block.now in
---             a.index * k + k + k + k + k ≤ length a.codewords.now =
---         omega (arith, c.requires, add-mul c.args.index 4 (length c.args.block.now)) in
---     omega (arith, inside)
-
 pub offset_bounds-codewords-at2 : goal.offset_bounds-codewords-at2
 offset_bounds-codewords-at2 c =
     let inside : let a = c.args in
@@ -73,15 +64,6 @@ offset_bounds-codewords-at2 c =
     a.index * k + k + k + k + k ≤ length a.codewords.now =
     omega (arith, c.requires, add-mul c.args.index 4 (length c.args.block.now)) in
     record { fits = omega (arith, inside, c.well_formed.0.1) }
-
--- GONE
--- part-four-distances-end-2 : tie.Need-slice-bounds-four-distances-end-2
--- part-four-distances-end-2 c =
---     let inside : let a = c.args in
---             let k = length a.block.now in
---             a.index * k + k + k + k + k ≤ length a.codewords.now =
---         omega (arith, c.requires, add-mul c.args.index 4 (length c.args.block.now)) in
---     omega (arith, inside)
 
 pub offset_bounds-codewords-at3 : goal.offset_bounds-codewords-at3
 offset_bounds-codewords-at3 c =
@@ -91,15 +73,6 @@ offset_bounds-codewords-at3 c =
     omega (arith, c.requires, add-mul c.args.index 4 (length c.args.block.now)) in
     record { fits = omega (arith, inside, c.well_formed.0.1) }
 
--- GONE
--- part-four-distances-end-3 : tie.Need-slice-bounds-four-distances-end-3
--- part-four-distances-end-3 c =
---     let inside : let a = c.args in
---             let k = length a.block.now in
---             a.index * k + k + k + k + k ≤ length a.codewords.now =
---         omega (arith, c.requires, add-mul c.args.index 4 (length c.args.block.now)) in
---     omega (arith, inside)
-
 pub offset_bounds-codewords-at4 : goal.offset_bounds-codewords-at4
 offset_bounds-codewords-at4 c =
     let inside : let a = c.args in
@@ -107,15 +80,6 @@ offset_bounds-codewords-at4 c =
     a.index * k + k + k + k + k ≤ length a.codewords.now =
     omega (arith, c.requires, add-mul c.args.index 4 (length c.args.block.now)) in
     record { fits = omega (arith, inside, c.well_formed.0.1) }
-
--- GONE
--- part-four-distances-end-4 : tie.Need-slice-bounds-four-distances-end-4
--- part-four-distances-end-4 c =
---     let inside : let a = c.args in
---             let k = length a.block.now in
---             a.index * k + k + k + k + k ≤ length a.codewords.now =
---         omega (arith, c.requires, add-mul c.args.index 4 (length c.args.block.now)) in
---     omega (arith, inside)
 
 pub four_distances-requires : goal.four_distances-requires
 four_distances-requires c =

@@ -11,11 +11,6 @@ use Rattle.ieee.specs.Sum.{sum_to}
 use Rattle.lloyd_search.proofs.Parts.{row_fits, next_row, part_length, part_chosen}
 use Rattle.lloyd_search.proofs.mean_error.Goals as goal
 
--- GONE
--- div-count : tie.Need-nonzero-div-count invariant-loop decreases-loop
--- div-count c = c.before.before.requires.0
---
-
 pub loop-s-init : goal.loop-s-init
 unfolding of_bits sum_to
 loop-s-init c = (search rules, omega arith, refl)
@@ -33,14 +28,6 @@ offset_bounds-samples-at c =
     let a = c.args in
     row_fits c.loop-s.s (length a.samples.now / a.k) a.k c.loop-s.at (length a.samples.now) c.loop-s-test.true c.loop-s.invariant.1 c.requires.3 in
     record { fits = omega (arith, inside, c.well_formed.1.1.1.0.1) }
-
--- GONE
--- part-search-end : tie.Need-slice-bounds-search-end invariant-loop decreases-loop
--- part-search-end c =
---     let inside : c.before.loop.at + c.before.before.before.before.args.k ≤ length c.before.before.before.before.args.samples.now =
---         let a = c.before.before.before.before.args in
---             row_fits c.before.loop.s (length a.samples.now / a.k) a.k c.before.loop.at (length a.samples.now) c.loop-test.true c.before.loop.invariant.1 c.before.before.before.before.requires.3 in
---     inside
 
 pub search-choice-requires : goal.search-choice-requires
 search-choice-requires c =

@@ -58,15 +58,6 @@ offset_bounds-codewords-at c =
     omega (arith, c.requires.0, add-mul c.args.index 4 (length c.args.block.now)) in
     record { fits = omega (arith, inside, c.well_formed.0.1) }
 
--- GONE
--- part-four-distances-f32-end : tie.Need-slice-bounds-four-distances-f32-end
--- part-four-distances-f32-end c =
---     let inside : let a = c.args in
---             let k = length a.block.now in
---             a.index * k + k + k + k + k ≤ length a.codewords.now =
---         omega (arith, c.requires.0, add-mul c.args.index 4 (length c.args.block.now)) in
---     omega (arith, inside)
-
 pub offset_bounds-codewords-at2 : goal.offset_bounds-codewords-at2
 offset_bounds-codewords-at2 c =
     let inside : let a = c.args in
@@ -74,15 +65,6 @@ offset_bounds-codewords-at2 c =
     a.index * k + k + k + k + k ≤ length a.codewords.now =
     omega (arith, c.requires.0, add-mul c.args.index 4 (length c.args.block.now)) in
     record { fits = omega (arith, inside, c.well_formed.0.1) }
-
--- GONE
--- part-four-distances-f32-end-2 : tie.Need-slice-bounds-four-distances-f32-end-2
--- part-four-distances-f32-end-2 c =
---     let inside : let a = c.args in
---             let k = length a.block.now in
---             a.index * k + k + k + k + k ≤ length a.codewords.now =
---         omega (arith, c.requires.0, add-mul c.args.index 4 (length c.args.block.now)) in
---     omega (arith, inside)
 
 pub offset_bounds-codewords-at3 : goal.offset_bounds-codewords-at3
 offset_bounds-codewords-at3 c =
@@ -92,15 +74,6 @@ offset_bounds-codewords-at3 c =
     omega (arith, c.requires.0, add-mul c.args.index 4 (length c.args.block.now)) in
     record { fits = omega (arith, inside, c.well_formed.0.1) }
 
--- GONE
--- part-four-distances-f32-end-3 : tie.Need-slice-bounds-four-distances-f32-end-3
--- part-four-distances-f32-end-3 c =
---     let inside : let a = c.args in
---             let k = length a.block.now in
---             a.index * k + k + k + k + k ≤ length a.codewords.now =
---         omega (arith, c.requires.0, add-mul c.args.index 4 (length c.args.block.now)) in
---     omega (arith, inside)
-
 pub offset_bounds-codewords-at4 : goal.offset_bounds-codewords-at4
 offset_bounds-codewords-at4 c =
     let inside : let a = c.args in
@@ -108,15 +81,6 @@ offset_bounds-codewords-at4 c =
     a.index * k + k + k + k + k ≤ length a.codewords.now =
     omega (arith, c.requires.0, add-mul c.args.index 4 (length c.args.block.now)) in
     record { fits = omega (arith, inside, c.well_formed.0.1) }
-
--- GONE
--- part-four-distances-f32-end-4 : tie.Need-slice-bounds-four-distances-f32-end-4
--- part-four-distances-f32-end-4 c =
---     let inside : let a = c.args in
---             let k = length a.block.now in
---             a.index * k + k + k + k + k ≤ length a.codewords.now =
---         omega (arith, c.requires.0, add-mul c.args.index 4 (length c.args.block.now)) in
---     omega (arith, inside)
 
 pub four_distances_f32-requires : goal.four_distances_f32-requires
 four_distances_f32-requires c =

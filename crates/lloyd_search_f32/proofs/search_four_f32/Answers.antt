@@ -42,14 +42,6 @@ offset_bounds-codewords-at c =
     row_fits c.loop-i.i s.args.n s.args.k c.loop-i.at (length s.args.codewords.now) c.loop-i-test.true c.loop-i.invariant.1 s.requires.0 in
     record { fits = omega (arith, inside, c.well_formed.0.1) }
 
--- GONE
--- part-distances-of-four-f32-end : tie.Need-slice-bounds-distances-of-four-f32-end invariant-loop decreases-loop
--- part-distances-of-four-f32-end c =
---     let inside : let a = c.before.before.before.before.before.before.before.before.args in c.before.loop.at + a.k ≤ length a.codewords.now =
---         let s = c.before.before.before.before.before.before.before.before in
---             row_fits c.before.loop.i s.args.n s.args.k c.before.loop.at (length s.args.codewords.now) c.loop-test.true c.before.loop.invariant.1 s.requires.0 in
---     inside
-
 pub distances_of_four_f32-far-requires : goal.distances_of_four_f32-far-requires
 distances_of_four_f32-far-requires c =
     let inside : let a = c.args in c.loop-i.at + a.k ≤ length a.codewords.now =

@@ -3,16 +3,6 @@ use Rattle.std.proofs.Common.{◌*◌, ◌/◌, ◌%◌, sym, ◌∙◌, mod-lt,
 use Rattle.narrow.proofs.Cmp.{nearest_down, nearest_up, nearest_tie}
 use Rattle.narrow.proofs.nearest.Goals as goal
 
--- GONE
--- div-q : tie.Need-nonzero-div-q
--- div-q c = search rules
---
-
--- GONE
--- rem-twice : tie.Need-nonzero-rem-twice
--- rem-twice c = search rules
---
-
 pub overflow_mul-twice : goal.overflow_mul-twice
 overflow_mul-twice c = omega (arith, mod-lt c.args.a c.requires.0)
 
