@@ -15,12 +15,11 @@ use Rattle.error.specs.Numbers.{Outcome, completed, refused, and_then, accepted}
 use Rattle.ieee.specs.Bounds.{Upto, NotNegative}
 use Rattle.ieee.proofs.Bound.{upto_finite, upto_mono}
 use Rattle.slices.specs.Limit.{first_outside, first_not_finite}
-use Rattle.lloyd_search.specs.Distance.{row_of, distance}
+use Rattle.lloyd_search.specs.Distance.{row_of}
 use Rattle.lloyd_search.specs.Nearest.{nearest, another, tied_at, Least}
 use Rattle.lloyd_search.proofs.Parts.{row_place}
 use Rattle.lloyd_search.proofs.LimitLaw.{all_within, passed_bounded}
 use Rattle.lloyd_search.proofs.FiniteLaw.{finite_distance}
-use Rattle.slices.specs.First.{count_where}
 use Rattle.slices.proofs.FirstLaw.{all_finite}
 use Rattle.slices.proofs.CountLaw.{count_ext}
 use Rattle.norm.proofs.NormLaw.{norm_written}

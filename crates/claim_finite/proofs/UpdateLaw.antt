@@ -12,7 +12,7 @@ use Rattle.slices.specs.declared.First.TheVariants.{Nowhere}
 use Rattle.slices.specs.Limit.{first_outside}
 use Rattle.lloyd_search.specs.Distance.{row_of}
 use Rattle.lloyd_search.proofs.FiniteLaw.{Bounded}
-use Rattle.lloyd_search.proofs.LimitLaw.{all_within, passed_bounded}
+use Rattle.lloyd_search.proofs.LimitLaw.{all_within}
 use Rattle.lloyd_search.proofs.Parts.{row_place}
 use Rattle.lloyd_cells.specs.Repair.{Repaired}
 use Rattle.lloyd_update.specs.Alone.{Call, update_limit, update_checks, terms_of, update_of}

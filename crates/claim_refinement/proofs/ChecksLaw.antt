@@ -1,7 +1,7 @@
 -- No check of a refinement answers 15.
 -- Assumes nothing.
 use mathlib.Core.Path.{◌≡◌}
-use Prim.Native.Nat.{ℕ, ◌+◌, ◌-◌, ◌*◌, ◌%◌}
+use Prim.Native.Nat.{ℕ, ◌-◌, ◌*◌, ◌%◌}
 use mathlib.Core.Bool.{not, ◌&&◌, ◌||◌}
 use mathlib.Core.List.{List}
 use lib.Dec.{eqb, leb, ltb}

@@ -3,7 +3,7 @@
 -- Assumes nothing.
 use mathlib.Core.Path.{◌≡◌, refl, sym, ap, ◌∙◌, subst}
 use mathlib.Core.Logic.{inl, inr}
-use Prim.Native.Nat.{ℕ, zero, suc, ◌*◌, ◌≤◌, ◌<◌}
+use Prim.Native.Nat.{ℕ, zero, suc, ◌≤◌, ◌<◌}
 use native.Mathlib.Nat.{le_refl, eq-or-lt_of_le, le_of_suc-le-suc, zero-lt-suc}
 use native.Mathlib.Omega.{arith}
 use mathlib.Core.List.{List, [], ◌∷◌, ◌++◌, append_assoc, append-nil}
@@ -12,8 +12,6 @@ use lib.ListN.{length, get_or, take, drop, length-append}
 use lib.Seq.{take-append_seam, drop-append_seam}
 use lib.Ieee.{Float}
 use Rattle.error.specs.Numbers.{Outcome, completed}
-use Rattle.slices.specs.declared.First.TheVariants.{Nowhere}
-use Rattle.slices.specs.Limit.{first_outside}
 use Rattle.slices.specs.Lists.{tabulate}
 use Rattle.slices.proofs.TabulateLaw.{get_d_tabulate}
 use Rattle.lloyd_search.specs.Distance.{row_of}

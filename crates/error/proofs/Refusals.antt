@@ -1,7 +1,7 @@
 -- What holds of every refusal, whichever it is. Assumes nothing.
 use mathlib.Core.Path.{◌≡◌, refl, ap, ◌∙◌}
 use Prim.Native.Nat.{ℕ}
-use mathlib.Core.List.{List, [], ◌∷◌}
+use mathlib.Core.List.{List}
 use Rattle.error.specs.declared.Refusal.{Refusal}
 use Rattle.error.specs.declared.Refusal.TheVariants.{ZeroDimension, InvalidBlockDim, DimensionNotDivisible, InvalidCodebookSize, ResourceLimitExceeded, ProfileField, ProfileRate, SliceLength, CompactFrame, PackedIndices, Norm, IndexOutOfRange, NonFiniteInput, ZeroNorm, EmptyCells, NoDonor, NoDirection, CodeHeader, OutOfBounds, EventSlotsUsed, Report}
 use Rattle.error.specs.Numbers.{Value, Outcome, completed, refused, refusal, also, if_completed}
