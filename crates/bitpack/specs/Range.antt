@@ -1,4 +1,4 @@
--- What it means that the first index above a bound is refused. Definitions only; proofs/Checks.antt has it of `inRange`.
+-- What it means that the first index above a bound is refused. Definitions only; proofs/Checks.antt has it of `in_range`.
 use Rattle.std.specs.Prelude.{ℕ, ◌<◌, ◌≤◌, ◌≡◌, List, [], ◌∷◌, ◌⊎◌, length, get_or}
 use Rattle.error.specs.Numbers.{Outcome, completed, refused, whole}
 

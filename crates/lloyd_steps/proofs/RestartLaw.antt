@@ -69,8 +69,8 @@ pub record Kept (j : Job) (r : ℕ) (b : Best) (s : RefineState) (work : List Fl
   pub winner : s.best_restart ≡ b.winner
 
 -- the error that keep_better measures, and what it makes of state and work
-abbrev pub errorIn : Job → List Float → Float
-errorIn j work = mean_error (dim_of j) (size_of j) (row_of (dim_of j) (take (size_of j * dim_of j) work)) (row_of (dim_of j) j.samples) (length j.samples / dim_of j)
+abbrev pub error_in : Job → List Float → Float
+error_in j work = mean_error (dim_of j) (size_of j) (row_of (dim_of j) (take (size_of j * dim_of j) work)) (row_of (dim_of j) j.samples) (length j.samples / dim_of j)
 
 abbrev copied : Job → List Float → List Float
 copied j work = patched work (size_of j * dim_of j) (size_of j * dim_of j) (λ i. get_or work (0 + i) nan)
@@ -79,7 +79,7 @@ module _ {j : Job} {b : Best} {t : Trained} {s : RefineState} {work : List Float
   pub room : 2 * (size_of j * dim_of j) ≤ length work
   room = omega (arith, h.floats, (checks_passed j h.checked).floats)
 
-  is_error : errorIn j work ≡ error_of j t.codebook
+  is_error : error_in j work ≡ error_of j t.codebook
   is_error =
       let r = room in
       ap (λ (z : List Float). mean_error (dim_of j) (size_of j) (row_of (dim_of j) z) (row_of (dim_of j) j.samples) (length j.samples / dim_of j)) (held_first (size_of j) (dim_of j) t.codebook work (omega arith) h.current)
@@ -100,9 +100,9 @@ module _ {j : Job} {b : Best} {t : Trained} {s : RefineState} {work : List Float
       patched_inside work (size_of j * dim_of j) (size_of j * dim_of j) (λ m. get_or work (0 + m) nan) i nan (omega arith) l ∙ h.current.values i l
 
   -- by whether the error is less
-  by_test : (z : Bool) → lt (errorIn j work) s.best_mse ≡ z → Kept j (s.restart + 1) after (cond z (with_best (errorIn j work) s) s) (cond z (copied j work) work)
+  by_test : (z : Bool) → lt (error_in j work) s.best_mse ≡ z → Kept j (s.restart + 1) after (cond z (with_best (error_in j work) s) s) (cond z (copied j work) work)
   by_test true e =
-      let q : lt (error_of j t.codebook) b.error ≡ true = ap (λ (x : Float). lt x b.error) (sym is_error) ∙ ap (lt (errorIn j work)) (sym h.best) ∙ e in
+      let q : lt (error_of j t.codebook) b.error ≡ true = ap (λ (x : Float). lt x b.error) (sym is_error) ∙ ap (lt (error_in j work)) (sym h.best) ∙ e in
       let w : after ≡ record { codebook = t.codebook; error = error_of j t.codebook; winner = Restart s.restart; events = t.events } = rw q in
       record {
         floats = length-patched work (size_of j * dim_of j) (size_of j * dim_of j) (λ i. get_or work (0 + i) nan) ∙ h.floats;
@@ -116,7 +116,7 @@ module _ {j : Job} {b : Best} {t : Trained} {s : RefineState} {work : List Float
         winner = ap (λ (x : Best). x.winner) (sym w);
       }
   by_test false e =
-      let q : lt (error_of j t.codebook) b.error ≡ false = ap (λ (x : Float). lt x b.error) (sym is_error) ∙ ap (lt (errorIn j work)) (sym h.best) ∙ e in
+      let q : lt (error_of j t.codebook) b.error ≡ false = ap (λ (x : Float). lt x b.error) (sym is_error) ∙ ap (lt (error_in j work)) (sym h.best) ∙ e in
       let w : after ≡ record { codebook = b.codebook; error = b.error; winner = b.winner; events = t.events } = rw q in
       record {
         floats = h.floats;
@@ -130,9 +130,9 @@ module _ {j : Job} {b : Best} {t : Trained} {s : RefineState} {work : List Float
         winner = h.winner ∙ ap (λ (x : Best). x.winner) (sym w);
       }
 
-  pub restart_ended : (r : RefineState) (new : List Float) → r ≡ cond (lt (errorIn j work) s.best_mse) (with_best (errorIn j work) s) s → new ≡ cond (lt (errorIn j work) s.best_mse) (copied j work) work
+  pub restart_ended : (r : RefineState) (new : List Float) → r ≡ cond (lt (error_in j work) s.best_mse) (with_best (error_in j work) s) s → new ≡ cond (lt (error_in j work) s.best_mse) (copied j work) work
       → Kept j (s.restart + 1) after r new
-  restart_ended r new p q = rw (p, q) (by_test (lt (errorIn j work) s.best_mse) refl)
+  restart_ended r new p q = rw (p, q) (by_test (lt (error_in j work) s.best_mse) refl)
 
 -- ---- the next restart
 

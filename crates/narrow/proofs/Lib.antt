@@ -6,3 +6,4 @@ pub mod MagLaw
 pub mod Fields
 pub mod Unpacked
 pub mod Exactly
+pub mod Middle

@@ -5,7 +5,7 @@ use Rattle.std.specs.Prelude.{◌≡◌, ℕ, ◌+◌, ◌-◌, ◌*◌, ◌/◌
 use Rattle.std.specs.Float.{nan, inf}
 use Rattle.std.specs.Float.Ieee.{odd}
 
--- the smallest positive value is 2 ^ -lowOf
+-- the smallest positive value is 2 ^ -low_of
 abbrev pub low_of : ℕ → ℕ → ℕ
 low_of p emax = emax + p - 2
 

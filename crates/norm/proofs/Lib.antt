@@ -1,1 +1,2 @@
 pub mod NormLaw
+pub mod RangeLaw
