@@ -1,10 +1,12 @@
 -- What holds of every refusal, whichever it is. Assumes nothing.
-use mathlib.Core.Path.{◌≡◌, refl, ap, ◌∙◌}
+use mathlib.Core.Path.{◌≡◌, refl, sym, ap, ◌∙◌}
+use Rattle.std.specs.Prelude.{Result, Ok, Err}
+use Rattle.std.specs.Result.{IsErrAnd}
 use Prim.Native.Nat.{ℕ}
 use mathlib.Core.List.{List}
 use Rattle.error.specs.declared.Refusal.{Refusal}
 use Rattle.error.specs.declared.Refusal.TheVariants.{ZeroDimension, InvalidBlockDim, DimensionNotDivisible, InvalidCodebookSize, ResourceLimitExceeded, ProfileField, ProfileRate, SliceLength, CompactFrame, PackedIndices, Norm, IndexOutOfRange, NonFiniteInput, ZeroNorm, EmptyCells, NoDonor, NoDirection, CodeHeader, OutOfBounds, EventSlotsUsed, Report}
-use Rattle.error.specs.Numbers.{Value, Outcome, completed, refused, refusal, also, if_completed}
+use Rattle.error.specs.Numbers.{Value, Outcome, completed, refused, refusal, outcome, also, if_completed}
 
 -- what holds of every refused outcome holds of every refusal, at two types of answers
 pub by_refusal : {A B : Type 0} (P : Outcome A → Outcome B → Type 0) → ((n : ℕ) (values : List Value) → P (refused n values) (refused n values)) → (r : Refusal) → P (refusal r) (refusal r)
@@ -51,3 +53,19 @@ also_first (refused n values) q h = cc
 pub also_next : {A : Type 0} {x : A} (o : Outcome Unit) (q : Outcome A) → also o q ≡ completed x → q ≡ completed x
 also_next (completed tt) q h = h
 also_next (refused n values) q h = cc
+
+-- ---- answers of the program, handed on by `?`: a refusal is the caller's answer, after it nothing more is checked
+pub handed_on : {A : Type 0} (y : Result A Refusal) (r : Refusal) → IsErrAnd y (λ e. e ≡ r) → outcome y ≡ refusal r
+handed_on (Ok x) r h = absurd h
+handed_on (Err e) r h = ap refusal h
+
+pub also_exit : {A : Type 0} (y : Result A Refusal) (r : Refusal) (o : Outcome Unit) (q : Outcome A) → IsErrAnd y (λ e. e ≡ r) → refusal r ≡ o → outcome y ≡ also o q
+also_exit y r o q h e = handed_on y r h ∙ sym (also_refused o q r (sym e))
+
+pub also_on : {A : Type 0} (p : Outcome A) (o : Outcome Unit) (q : Outcome A) → completed tt ≡ o → p ≡ q → p ≡ also o q
+also_on p o q h e = e ∙ sym (also_then o q (sym h))
+
+-- two checks in one
+pub also_both : {A : Type 0} (p : Outcome A) (a b : Outcome Unit) (q : Outcome A) → p ≡ also a (also b q) → p ≡ also (also a b) q
+also_both p (completed tt) b q h = h
+also_both p (refused n values) b q h = h

@@ -1,9 +1,8 @@
 -- The table of refusals: the number of each case, and the values that come back with it. Definitions only.
-use Rattle.std.specs.Prelude.{ℕ, cond, List, [], ◌∷◌, eqb, Float}
+use Rattle.std.specs.Prelude.{ℕ, cond, List, [], ◌∷◌, eqb, Float, Result, Ok, Err}
+use Rattle.error.specs.Names.{slice_number, field_number, frame_site_number, packing_site_number, report_site_number}
 use Rattle.error.specs.declared.Refusal.{Refusal}
 use Rattle.error.specs.declared.Refusal.TheVariants.{ZeroDimension, InvalidBlockDim, DimensionNotDivisible, InvalidCodebookSize, ResourceLimitExceeded, ProfileField, ProfileRate, SliceLength, CompactFrame, PackedIndices, Norm, IndexOutOfRange, NonFiniteInput, ZeroNorm, EmptyCells, NoDonor, NoDirection, CodeHeader, OutOfBounds, EventSlotsUsed, Report}
-use Rattle.error.specs.declared.Checked.{Checked}
-use Rattle.error.specs.declared.Checked.TheVariants.{Accepted, Refused}
 
 -- a value that comes back with a number
 pub data Value : Type 0 where
@@ -22,11 +21,11 @@ refusal (InvalidBlockDim d k) = refused 2 (whole d ∷ whole k ∷ [])
 refusal (DimensionNotDivisible d k) = refused 3 (whole d ∷ whole k ∷ [])
 refusal (InvalidCodebookSize n) = refused 4 (whole n ∷ [])
 refusal ResourceLimitExceeded = refused 5 []
-refusal (ProfileField f) = refused 6 (whole f ∷ [])
-refusal (ProfileRate f given expected) = refused 6 (whole f ∷ real given ∷ real expected ∷ [])
-refusal (SliceLength s) = refused 7 (whole s ∷ [])
-refusal (CompactFrame site) = refused 8 (whole site ∷ [])
-refusal (PackedIndices site) = refused 9 (whole site ∷ [])
+refusal (ProfileField f) = refused 6 (whole (field_number f) ∷ [])
+refusal (ProfileRate f given expected) = refused 6 (whole (field_number f) ∷ real given ∷ real expected ∷ [])
+refusal (SliceLength s) = refused 7 (whole (slice_number s) ∷ [])
+refusal (CompactFrame site) = refused 8 (whole (frame_site_number site) ∷ [])
+refusal (PackedIndices site) = refused 9 (whole (packing_site_number site) ∷ [])
 refusal Norm = refused 10 []
 refusal (IndexOutOfRange index bound) = refused 11 (whole index ∷ whole bound ∷ [])
 refusal (NonFiniteInput place) = refused 12 (whole place ∷ [])
@@ -35,14 +34,14 @@ refusal (EmptyCells n) = refused 14 (whole n ∷ [])
 refusal (NoDonor cell) = refused 15 (whole cell ∷ [])
 refusal (NoDirection donor) = refused 16 (whole donor ∷ [])
 refusal CodeHeader = refused 17 []
-refusal (OutOfBounds slice place) = refused 18 (whole slice ∷ whole place ∷ [])
+refusal (OutOfBounds slice place) = refused 18 (whole (slice_number slice) ∷ whole place ∷ [])
 refusal (EventSlotsUsed slots) = refused 19 (whole slots ∷ [])
-refusal (Report site) = refused 20 (whole site ∷ [])
+refusal (Report site) = refused 20 (whole (report_site_number site) ∷ [])
 
--- the answer of an entry point that returns nothing else
-abbrev pub checked : Checked → Outcome Unit
-checked Accepted = completed tt
-checked (Refused r) = refusal r
+-- what an answer of the program comes to
+abbrev pub outcome : {A : Type 0} → Result A Refusal → Outcome A
+outcome (Ok x) = completed x
+outcome (Err r) = refusal r
 
 -- one step after another: the first refusal decides
 abbrev pub and_then : {A B : Type 0} → Outcome A → (A → Outcome B) → Outcome B

@@ -1,12 +1,14 @@
-// What every entry point answers with: the refusals of the fib-quant port, a case for each
+// What every entry point can refuse with: the refusals of the fib-quant port, a case for each
 // row of the table of numbers, and one more for a rate. specs/Numbers.antt sets out the
 // number and the values of each case; every contract above that can refuse speaks through it.
 #![tactic(auto)]
 
-pub mod names;
+mod names;
+
+pub use names::{Field, FrameSite, PackingSite, ReportSite, Slice};
 
 // A refusal and the values that its row of the table names.
-#[derive(Clone, Copy)]
+#[derive(Clone, Copy, Debug, PartialEq)]
 pub enum Refusal {
     ZeroDimension,
     InvalidBlockDim {
@@ -20,16 +22,16 @@ pub enum Refusal {
     InvalidCodebookSize(u64),
     ResourceLimitExceeded,
     // A profile field that does not fit; a rate also shows the value given and the value expected.
-    ProfileField(u32),
+    ProfileField(Field),
     ProfileRate {
-        field: u32,
+        field: Field,
         given: f64,
         expected: f64,
     },
     // A lent slice of the wrong length.
-    SliceLength(u32),
-    CompactFrame(u32),
-    PackedIndices(u32),
+    SliceLength(Slice),
+    CompactFrame(FrameSite),
+    PackedIndices(PackingSite),
     Norm,
     IndexOutOfRange {
         index: u32,
@@ -43,16 +45,9 @@ pub enum Refusal {
     CodeHeader,
     // A value that is not finite or too large, by slice and place.
     OutOfBounds {
-        slice: u32,
+        slice: Slice,
         place: u64,
     },
     EventSlotsUsed(u64),
-    Report(u32),
-}
-
-// The answer of an entry point that returns nothing else.
-#[derive(Clone, Copy)]
-pub enum Checked {
-    Accepted,
-    Refused(Refusal),
+    Report(ReportSite),
 }

@@ -1,74 +1,61 @@
-// The numbers that come back with 6, 7, 8, 9, 18 and 20, by name, as specs/Names.antt has them.
+// What a refusal names, each by the number that comes back with it: lent slices, profile fields, and the sites of a
+// frame, of a packing and of a report. specs/Names.antt has the numbers.
 
-// Slices. The codebook of update called alone is the initial one.
-pub const INITIAL_SLICE: u32 = 1;
+// A lent slice. The codebook of update called alone is the initial one.
+#[derive(Clone, Copy, Debug, PartialEq, Eq)]
+pub enum Slice {
+    Initial = 1,
+    Samples = 2,
+    Matrix = 3,
+    Codewords = 4,
+    Input = 5,
+    Output = 6,
+    FloatWork = 7,
+    IntegerWork = 8,
+    Events = 9,
+    Assignments = 10,
+    Norm = 11,
+    Right = 12,
+}
 
-pub const SAMPLES_SLICE: u32 = 2;
+// A field of a profile.
+#[derive(Clone, Copy, Debug, PartialEq, Eq)]
+pub enum Field {
+    Schema = 1,
+    NormFormat = 2,
+    SourceMode = 3,
+    RotationAlgorithm = 4,
+    WireBits = 5,
+    PaperRate = 6,
+    WireRate = 7,
+    MethodPair = 8,
+    Restarts = 9,
+    Iterations = 10,
+    Samples = 11,
+}
 
-pub const MATRIX_SLICE: u32 = 3;
+// Where a compact frame fails.
+#[derive(Clone, Copy, Debug, PartialEq, Eq)]
+pub enum FrameSite {
+    Short = 1,
+    Magic = 2,
+    Version = 3,
+    NormCutOff = 4,
+    IndexLength = 5,
+}
 
-pub const CODEWORDS_SLICE: u32 = 4;
+// Where packed indices fail.
+#[derive(Clone, Copy, Debug, PartialEq, Eq)]
+pub enum PackingSite {
+    Width = 1,
+    Length = 2,
+    PaddingBit = 3,
+}
 
-pub const INPUT_SLICE: u32 = 5;
-
-pub const OUTPUT_SLICE: u32 = 6;
-
-pub const FLOAT_WORK_SLICE: u32 = 7;
-
-pub const INTEGER_WORK_SLICE: u32 = 8;
-
-pub const EVENT_SLICE: u32 = 9;
-
-pub const ASSIGNMENT_SLICE: u32 = 10;
-
-pub const NORM_SLICE: u32 = 11;
-
-pub const RIGHT_SLICE: u32 = 12;
-
-// Profile fields.
-pub const SCHEMA_FIELD: u32 = 1;
-
-pub const NORM_FORMAT_FIELD: u32 = 2;
-
-pub const SOURCE_MODE_FIELD: u32 = 3;
-
-pub const ROTATION_ALGORITHM_FIELD: u32 = 4;
-
-pub const WIRE_BITS_FIELD: u32 = 5;
-
-pub const PAPER_RATE_FIELD: u32 = 6;
-
-pub const WIRE_RATE_FIELD: u32 = 7;
-
-pub const METHOD_PAIR_FIELD: u32 = 8;
-
-pub const RESTARTS_FIELD: u32 = 9;
-
-pub const ITERATIONS_FIELD: u32 = 10;
-
-pub const SAMPLES_FIELD: u32 = 11;
-
-// Sites of a compact frame.
-pub const SHORT_FRAME_SITE: u32 = 1;
-
-pub const FRAME_MAGIC_SITE: u32 = 2;
-
-pub const FRAME_VERSION_SITE: u32 = 3;
-
-pub const NORM_CUT_OFF_SITE: u32 = 4;
-
-pub const INDEX_LENGTH_SITE: u32 = 5;
-
-// Sites of packed indices.
-pub const PACKED_WIDTH_SITE: u32 = 1;
-
-pub const PACKED_LENGTH_SITE: u32 = 2;
-
-pub const PADDING_BIT_SITE: u32 = 3;
-
-// Sites of a report.
-pub const SETTINGS_SITE: u32 = 1;
-
-pub const MSE_SITE: u32 = 2;
-
-pub const REPAIR_COUNT_SITE: u32 = 3;
+// Where a report fails.
+#[derive(Clone, Copy, Debug, PartialEq, Eq)]
+pub enum ReportSite {
+    Settings = 1,
+    Mse = 2,
+    RepairCount = 3,
+}

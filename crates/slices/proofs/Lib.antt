@@ -1,6 +1,6 @@
 pub mod TabulateLaw
 pub mod ListLaw
+pub mod PartLaw
 pub mod FirstLaw
 pub mod CountLaw
 mod SizeLaw
-pub mod EightLaw

@@ -1,16 +1,14 @@
 -- The first place at which a test holds, whether there is one, and how many there are. Definitions only.
-use Rattle.std.specs.Prelude.{ℕ, zero, suc, ◌+◌, Bool, false, ◌||◌, cond}
-use Rattle.slices.specs.declared.First.{First}
-use Rattle.slices.specs.declared.First.TheVariants.{Nowhere, At}
+use Rattle.std.specs.Prelude.{ℕ, zero, suc, ◌+◌, Bool, false, ◌||◌, cond, Option, None, Some}
 
 -- an earlier place stays; else i where its test holds
-abbrev pub or_at : First → ℕ → Bool → First
-or_at (At j) i t = At j
-or_at Nowhere i t = cond t (At i) Nowhere
+abbrev pub or_at : Option ℕ → ℕ → Bool → Option ℕ
+or_at (Some j) i t = Some j
+or_at None i t = cond t (Some i) None
 
 -- among the places below n
-unfoldable pub first_where : (ℕ → Bool) → ℕ → First
-first_where t zero = Nowhere
+unfoldable pub first_where : (ℕ → Bool) → ℕ → Option ℕ
+first_where t zero = None
 first_where t (suc n) = or_at (first_where t n) n (t n)
 
 -- whether there is one
