@@ -13,8 +13,6 @@ pub const INFINITY: u64 = 0x7FF0_0000_0000_0000;
 
 pub const MINUS_INFINITY: u64 = 0xFFF0_0000_0000_0000;
 
-pub const INFINITY_F32: u32 = 0x7F80_0000;
-
 // Rust's `n as f64`: the binary64 value nearest to n, for every n.
 // (Rattle's own `as` stops at 2^53, where it would begin to round.)
 pub fn from_u64(n: u64) -> f64
@@ -24,20 +22,17 @@ pub fn from_u64(n: u64) -> f64
 }
 
 // Whether x is neither a NaN nor an infinity.
+#[tactic(auto, using(crate::proofs::Finite::finite_is))]
 pub fn is_finite(x: f64) -> bool
     ensures { result ≡ finite x }
 {
-    if f64::from_bits(MINUS_INFINITY) < x {
-        x < f64::from_bits(INFINITY)
-    } else {
-        false
-    }
+    f64::is_finite(x)
 }
 
 // The same for binary32.
+#[tactic(auto, using(crate::proofs::Finite::finite_is))]
 pub fn is_finite_f32(x: f32) -> bool
     ensures { result ≡ finite x }
 {
-    let infinity = f32::from_bits(INFINITY_F32);
-    if -infinity < x { x < infinity } else { false }
+    f32::is_finite(x)
 }

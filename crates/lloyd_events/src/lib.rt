@@ -8,7 +8,7 @@ ghost use Rattle.lloyd_events.specs.Events.{zero_event};
 // One repair: the empty cell, the cell that it was split from, and the
 // numbers of the split. Laid out as C has it, for callers in other languages.
 #[repr(C)]
-#[derive(Clone, Copy)]
+#[derive(Clone, Copy, Default)]
 pub struct LloydRepairEvent {
     pub restart: u32,
     pub iteration: u32,
@@ -27,16 +27,7 @@ pub const MAX_EVENT_SLOTS: usize = 1_048_576;
 pub fn zero_event() -> LloydRepairEvent
     ensures { result ≡ zero_event }
 {
-    LloydRepairEvent {
-        restart: 0,
-        iteration: 0,
-        empty_cell: 0,
-        donor_cell: 0,
-        donor_count_before: 0,
-        donor_distortion: 0.0,
-        residual_norm: 0.0,
-        split_epsilon: 0.0,
-    }
+    LloydRepairEvent::default()
 }
 
 // Writes the slot `at`.
@@ -51,11 +42,5 @@ pub fn put_event(slots: &mut [LloydRepairEvent], at: usize, e: LloydRepairEvent)
 pub fn zero_events(slots: &mut [LloydRepairEvent])
     ensures { slots.new ≡ replicate (length slots.old) zero_event }
 {
-    let e = zero_event();
-    let n = slots.len();
-    let mut i = 0;
-    while i < n {
-        put_event(slots, i, e);
-        i += 1;
-    }
+    slots.fill(zero_event());
 }

@@ -1,12 +1,12 @@
 -- The value that a pattern's fields stand for, and `packed` of it. Assumes nothing.
-use Rattle.std.proofs.Common.{◌≡◌, ℕ, zero, suc, ◌+◌, ◌-◌, ◌*◌, ◌/◌, ◌^◌, ◌<◌, ◌≤◌, min, Bool, true, false, cond, eqb, sym, refl, ap, ◌∙◌, zero-le, le_refl, mul_assoc, suc-mul, mul_comm, mul-le-mul, mul-pos, div-le_self, mul_right_comm, arith, pow_pos, pow_mono, eq-eqb, ne_eqb}
+use Rattle.std.proofs.Common.{◌≡◌, ℕ, zero, suc, ◌+◌, ◌-◌, ◌*◌, ◌/◌, ◌^◌, ◌<◌, ◌≤◌, min, Bool, true, false, cond, eqb, sym, refl, ap, ◌∙◌, le_refl, mul_assoc, suc-mul, mul_comm, mul-pos, div-le_self, mul_right_comm, arith, pow_pos, eq-eqb, ne_eqb}
 use native.Mathlib.Nat.{min-le_right}
 use lib.Ieee.{Float, nan, inf, fin, Format, prec, low, hid, ones, up, down, size, odd, of_fields}
 use lib.Ieee.Fits.{down_pos}
 use lib.Ieee.Exact.{HasValue, odd_sign}
 use lib.Ieee.Nearest.{closest, closest_same, div_same}
 use Rattle.narrow.specs.Format.{low_of, inf_of, top_of}
-use Rattle.narrow.specs.Pack.{mag_of, packed, Narrower}
+use Rattle.narrow.specs.Pack.{mag_of, packed}
 
 -- ---- `mag_of` sees only the value of its fraction
 pub mag_same : (p E a b c d : ℕ) → 0 < b → 0 < d → a * d ≡ c * b → mag_of p E a b ≡ mag_of p E c d
@@ -97,17 +97,3 @@ packed_lt p E x = go x
     go nan = omega (arith, top_split p E, some, div-le_self H 2)
     go (inf s) = signed s (inf_of p E) (le_refl (inf_of p E))
     go (fin s m e) = signed s (mag_of p E (m * up e) (down e)) (mag_le p E (m * up e) (down e))
-
-module _ {p E : ℕ} (n : Narrower p E) where
-  pub hid_le : 2 ^ (p - 1) ≤ 8388608
-  hid_le = pow_mono {i = p - 1} {j = 23} (omega arith)
-
-  pub most_le : inf_of p E ≤ 8581545984
-  most_le = mul-le-mul {n₂ = 1023} (omega arith) hid_le
-
-  pub top_le : top_of p E ≤ 8589934592
-  top_le = mul-le-mul {m₂ = 1024} hid_le (omega arith)
-
-  pub sign_le : (b : Bool) → cond b (top_of p E) 0 ≤ 8589934592
-  sign_le true = top_le
-  sign_le false = zero-le

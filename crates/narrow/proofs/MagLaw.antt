@@ -1,11 +1,9 @@
 -- `mag_of` of a fraction whose denominator is a power of two, by one cut of the numerator's digits. All over variables,
 -- so that no power is worked out. Assumes nothing.
-use Rattle.std.proofs.Common.{◌≡◌, ℕ, suc, ◌+◌, ◌-◌, ◌*◌, ◌/◌, ◌%◌, ◌^◌, ◌<◌, ◌≤◌, min, sym, ap, ◌∙◌, subst, le_trans, le_of_eq, lt_of_lt_of_le, mul-le-mul_right, mod-eq_of_lt, mul_assoc, mul-pos, le-div_iff_mul-le, sub-eq-zero_of_le, arith, pow_pos, pow_mono, pow-add, shl_lt, shr_lt}
-use Prim.Native.Nat.{compare}
+use Rattle.std.proofs.Common.{◌≡◌, ℕ, suc, ◌+◌, ◌-◌, ◌*◌, ◌/◌, ◌%◌, ◌^◌, ◌<◌, ◌≤◌, min, sym, ap, ◌∙◌, subst, le_trans, le_of_eq, lt_of_lt_of_le, mul-le-mul_right, mod-eq_of_lt, mul_assoc, mul-pos, le-div_iff_mul-le, sub-eq-zero_of_le, eq-zero-or-pos, inl, inr, arith, pow_pos, pow_mono, pow-add, shl_lt, shr_lt}
 use native.Mathlib.Nat.{div-eq_of_lt}
 use lib.Ieee.{size}
 use lib.Ieee.Digits.{size-le}
-use lib.Ieee.Fits.{nearest-le}
 use lib.Ieee.Nearest.{closest, closest_same, div_same}
 use Rattle.narrow.specs.Format.{low_of, inf_of}
 use Rattle.narrow.specs.Pack.{mag_of}
@@ -64,23 +62,13 @@ mag_at p E s e c k r L h z t =
     sums : (l L c e r k : ℕ) → L ≡ l + c → r + e ≡ c + k → e + l + r ≡ L + k
     sums l L c e r k h t = omega arith
 
-pub mag_high : (p E s e c d k L : ℕ) → 0 < p → L ≡ low_of p E + c → 2 ^ (p + d - 1) ≤ s → s < 2 ^ (p + d) → e + d ≡ c + k
-    → mag_of p E (s * 2 ^ e) (2 ^ L) ≡ min (k * 2 ^ (p - 1) + closest s (2 ^ d)) (inf_of p E)
-mag_high p E s e c d k L P h g f t = mag_at p E s e c k d L h (drop_high p d c e k s P g f t) (flip t)
-  where
-    flip : e + d ≡ c + k → d + e ≡ c + k
-    flip t = omega arith
-
-pub mag_low : (p E s e c d r L : ℕ) → L ≡ low_of p E + c → s < 2 ^ (p + d) → e + d ≤ c → r + e ≡ c
-    → mag_of p E (s * 2 ^ e) (2 ^ L) ≡ min (0 * 2 ^ (p - 1) + closest s (2 ^ r)) (inf_of p E)
-mag_low p E s e c d r L h f g t = mag_at p E s e c 0 r L h (drop_low p d c e s f g) (same t)
-  where
-    same : r + e ≡ c → r + e ≡ c + 0
-    same t = omega arith
-
--- ---- how large the kept number is
-pub closest_le : (p r s : ℕ) → s < 2 ^ (p + r) → closest s (2 ^ r) ≤ 2 ^ p
-closest_le p r s h = le_trans (nearest-le (s / 2 ^ r) (compare (s % 2 ^ r * 2) (2 ^ r))) (shr_lt p r h)
+-- and from a number of p + d digits: d are cut, or those that lie below the smallest value
+pub mag_cut : (p E s e c d k r L : ℕ) → 0 < p → L ≡ low_of p E + c → s < 2 ^ (p + d) → (0 < e → 2 ^ (p + d - 1) ≤ s) → d ≤ c → k ≡ e - (c - d) → r + e ≡ c + k
+    → mag_of p E (s * 2 ^ e) (2 ^ L) ≡ min (k * 2 ^ (p - 1) + closest s (2 ^ r)) (inf_of p E)
+mag_cut p E s e c d k r L P h f g l i t = mag_at p E s e c k r L h (elim (eq-zero-or-pos k) [
+  | inl z ↦ drop_low p d c e s f (omega arith) ∙ sym z
+  | inr K ↦ drop_high p d c e k s P (g (omega arith)) f (omega arith)
+]) t
 
 -- less than a half
 pub closest_none : (r s : ℕ) → s * 2 < 2 ^ r → closest s (2 ^ r) ≡ 0

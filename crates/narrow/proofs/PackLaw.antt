@@ -151,13 +151,3 @@ unfolding is_nan
 equal_not_nan nan h = absurd (true≢false (sym nan_differs ∙ h))
 equal_not_nan (inf s) h = tt
 equal_not_nan (fin s m e) h = tt
-
-pub narrow_not_nan : (f : Format) (x : Float) → T (not (is_nan x)) → T (not (is_nan (narrow_to f x)))
-unfolding narrow_to is_nan
-narrow_not_nan f nan h = h
-narrow_not_nan f (inf s) h = tt
-narrow_not_nan f (fin s m e) h = no_nan f s (m * up e) (down e)
-
-pub nan_narrows : (f : Format) → narrow_to f nan ≡ nan
-unfolding narrow_to
-nan_narrows f = refl

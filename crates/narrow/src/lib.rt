@@ -1,6 +1,7 @@
 // Conversions between IEEE 754's binary16, binary32 and binary64, rounded to nearest, ties to even.
 // Rattle's `as` from f64 to f32 is defined only where nothing is lost, so narrowing is worked out on
 // bits. There is no type for binary16: a value of it is its bit pattern, a u16.
+// Kept: a conversion beside std's nearest_f64_to_f32_with_nan, since it and binary16's are one function with one proof.
 #![tactic(auto)]
 
 ghost use Rattle.std.specs.Prelude.{◌≡◌, ◌+◌, ◌-◌, ◌*◌, ◌^◌, ◌<◌, ◌≤◌, min, false, if◌then◌else◌, from_bits, nat_le};
@@ -10,93 +11,108 @@ ghost use Rattle.std.specs.Float.Ieee.Nearest.{closest};
 ghost use Rattle.narrow.specs.Format.{inf_of, top_of, unpacked};
 ghost use Rattle.narrow.specs.Pack.{mag_of, packed, narrow_to, Narrower, Wide};
 
-// ---- a binary64 pattern at a narrower format, of p digits and largest exponent emax
+// ---- a binary64 pattern at a narrower format
 
-// a / u to the nearest whole number, a tie to the even one.
-fn nearest(a: u64, u: u64) -> u64
-    requires { (0 < u) × (u < 0x4000_0000_0000_0000) × (a < 0x4000_0000_0000_0000) }
-    ensures { result ≡ closest a u }
+// The weight of a binary64 pattern's sign, and of its exponent's field: that of the leading digit.
+const SIGN: u64 = 0x8000_0000_0000_0000;
+
+const LEAD: u64 = 0x10_0000_0000_0000;
+
+// A format of so few digits that one cut of binary64's 53 gives the result.
+#[derive(Clone, Copy)]
+struct Binary {
+    digits: u64,
+    emax: u64,
+    ghost narrower: { Narrower digits emax },
+}
+
+const BINARY16: Binary = Binary {
+    digits: 11,
+    emax: 15,
+};
+
+const BINARY32: Binary = Binary {
+    digits: 24,
+    emax: 127,
+};
+
+// a without its last k binary digits, rounded to the nearest whole number, a tie to the even one.
+fn nearest(a: u64, k: u64) -> u64
+    requires { (k < 62) × (a < 0x4000_0000_0000_0000) }
+    ensures value { result ≡ closest a (2 ^ k) }
+    ensures bound { result ≤ a + 1 }
 {
+    let u = 1 << k;
     let q = a / u;
     let twice = a % u * 2;
-    if twice < u {
-        return q;
-    }
-    if u < twice {
-        return q + 1;
-    }
-    q + q % 2
+    // Without a branch, since which way a value goes cannot be foretold.
+    let up = (u < twice) | ((twice == u) & (q % 2 == 1));
+    q + up as u64
 }
 
-fn pow2(k: u64) -> u64
-    requires { k < 64 }
-    ensures { result ≡ 2 ^ k }
-{
-    1u64 << k
-}
-
-// The pattern with k in the exponent's field and q added, and no more than infinity's. A q of p
-// digits carries its leading one into the field.
-fn assemble(p: u64, emax: u64, k: u64, q: u64) -> u64
-    requires { (1 < p) × (p < 32) × (emax < 1024) × (k < 4096) × (q < 0x1_0000_0000) }
-    ensures { result ≡ min (k * 2 ^ (p - 1) + q) (inf_of p emax) }
-{
-    let hid = pow2(p - 1);
-    let m = k * hid + q;
-    let most = (2 * emax + 1) * hid;
-    if m < most { m } else { most }
-}
-
-// The pattern, without a sign, of sig * 2 ^ e of binary64's smallest values. Either the format keeps
-// p digits, and 53 - p are cut, or it keeps what lies above its own smallest value.
-fn magnitude(p: u64, emax: u64, sig: u64, e: u64) -> u64
-    requires narrower { Narrower p emax }
-    requires wide { Wide sig e }
-    ensures { result ≡ mag_of p emax (sig * 2 ^ e) (2 ^ 1074) }
-{
-    let d = 53 - p;
-    let c = 1076 - emax - p;
-    let e0 = c - d;
-    if e0 < e {
-        return assemble(p, emax, e - e0, nearest(sig, pow2(d)));
+impl Binary {
+    // The weight of the exponent's field.
+    fn lead(self) -> u64
+        ensures { result ≡ 2 ^ (self.digits - 1) }
+    {
+        1 << (self.digits - 1)
     }
-    let r = c - e;
-    if 54 < r {
-        return 0;
-    }
-    assemble(p, emax, 0, nearest(sig, pow2(r)))
-}
 
-fn sign_of(p: u64, emax: u64, b: u64) -> u64
-    requires { Narrower p emax }
-    ensures { result ≡ (if nat_le 0x8000_0000_0000_0000 b then top_of p emax else 0) }
-{
-    if 0x8000_0000_0000_0000 <= b {
-        return pow2(p - 1) * (2 * emax + 2);
+    fn infinity(self) -> u64
+        ensures { result ≡ inf_of self.digits self.emax }
+    {
+        (2 * self.emax + 1) * self.lead()
     }
-    0
-}
 
-// The binary64 pattern b at the narrower format, rounded once.
-fn narrowed(p: u64, emax: u64, b: u64) -> u64
-    requires { Narrower p emax }
-    ensures { result ≡ packed p emax (from_bits binary64 b) }
-{
-    let x = b % 0x8000_0000_0000_0000 / 0x10_0000_0000_0000;
-    let t = b % 0x10_0000_0000_0000;
-    let s = sign_of(p, emax, b);
-    if x == 2047 {
-        let hid = pow2(p - 1);
-        let most = (2 * emax + 1) * hid;
-        if t == 0 {
-            return s + most;
+    // The pattern with k in the exponent's field and q added, and no more than infinity's. A q of all
+    // the digits carries its leading one into the field.
+    fn assemble(self, k: u64, q: u64) -> u64
+        requires { (k < 4096) × (q < 0x4000_0000_0000_0000) }
+        ensures { result ≡ min (k * 2 ^ (self.digits - 1) + q) (inf_of self.digits self.emax) }
+    {
+        let m = k * self.lead() + q;
+        m.min(self.infinity())
+    }
+
+    // The pattern, without a sign, of sig * 2 ^ e of binary64's smallest values. Either the format keeps
+    // all its digits, and the others of the 53 are cut, or it keeps what lies above its own smallest value.
+    fn magnitude(self, sig: u64, e: u64) -> u64
+        requires { Wide sig e }
+        ensures value { result ≡ mag_of self.digits self.emax (sig * 2 ^ e) (2 ^ 1074) }
+        ensures bound { result ≤ inf_of self.digits self.emax }
+    {
+        let least = 1076 - self.emax - self.digits;
+        let k = e.saturating_sub(least - (53 - self.digits));
+        let cut = least + k - e;
+        if 54 < cut {
+            return 0;
         }
-        return most + hid / 2;
+        self.assemble(k, nearest(sig, cut))
     }
-    if x == 0 {
-        return s + magnitude(p, emax, t, 0);
+
+    // What the sign of the binary64 pattern b adds.
+    fn sign_of(self, b: u64) -> u64
+        ensures { result ≡ (if nat_le SIGN b then top_of self.digits self.emax else 0) }
+    {
+        if SIGN <= b {
+            return self.lead() * (2 * self.emax + 2);
+        }
+        0
     }
-    s + magnitude(p, emax, 0x10_0000_0000_0000 + t, x - 1)
+
+    // The binary64 pattern b at this format, rounded once.
+    fn narrowed(self, b: u64) -> u64
+        ensures { result ≡ packed self.digits self.emax (from_bits binary64 b) }
+    {
+        let t = b % LEAD;
+        let s = self.sign_of(b);
+        match b % SIGN / LEAD {
+            0 => s + self.magnitude(t, 0),
+            2047 if t == 0 => s + self.infinity(),
+            2047 => self.infinity() + self.lead() / 2,
+            x => s + self.magnitude(LEAD + t, x - 1),
+        }
+    }
 }
 
 // ---- binary16 patterns as values
@@ -114,16 +130,12 @@ fn unsigned_f16(m: u32) -> f32
     requires { m < 0x8000 }
     ensures { result ≡ unpacked 11 15 m }
 {
-    if 0x7C00 < m {
-        return 0.0 / 0.0;
+    match m {
+        0..1024 => scaled(m, 0),
+        1024..0x7C00 => scaled(1024 + m % 1024, m / 1024 - 1),
+        0x7C00 => f32::INFINITY,
+        _ => f32::NAN,
     }
-    if m == 0x7C00 {
-        return 1.0 / 0.0;
-    }
-    if m < 1024 {
-        return scaled(m, 0);
-    }
-    scaled(1024 + m % 1024, m / 1024 - 1)
 }
 
 // ---- the conversions
@@ -132,31 +144,22 @@ fn unsigned_f16(m: u32) -> f32
 pub fn f64_to_f32(x: f64) -> f32
     ensures { result ≡ narrow_to binary32 x }
 {
-    if x != x {
-        return 0.0 / 0.0;
-    }
-    f32::from_bits(narrowed(24, 127, f64::to_bits(x)) as u32)
-}
-
-// The binary16 pattern of x, rounded. A NaN's is 0x7E00.
-pub fn f32_to_f16_bits(x: f32) -> u16
-    ensures { result ≡ packed 11 15 x }
-{
-    if x != x {
-        return 0x7E00;
-    }
-    narrowed(11, 15, f64::to_bits(x as f64)) as u16
+    let bits = BINARY32.narrowed(std::num::f64_to_bits_with_nan(x));
+    std::num::f32_from_bits_with_nan(bits as u32)
 }
 
 // The binary16 pattern of x, rounded once. A NaN's is 0x7E00.
 pub fn f64_to_f16_bits(x: f64) -> u16
     ensures { result ≡ packed 11 15 x }
 {
-    if x != x {
-        0x7E00
-    } else {
-        narrowed(11, 15, f64::to_bits(x)) as u16
-    }
+    BINARY16.narrowed(std::num::f64_to_bits_with_nan(x)) as u16
+}
+
+// The binary16 pattern of x, rounded: binary64 holds x too. A NaN's is 0x7E00.
+pub fn f32_to_f16_bits(x: f32) -> u16
+    ensures { result ≡ packed 11 15 x }
+{
+    f64_to_f16_bits(f32_to_f64(x))
 }
 
 // The value of a binary16 pattern, which binary32 holds exactly.

@@ -29,8 +29,8 @@ module _ (sig a r m i : ℕ) (h : State sig a r m i) where
   grown : 2 ^ (i + 1) ≡ 2 ^ i + 2 ^ i
   grown = ap (λ (x : ℕ). 2 ^ x) (add-one i) ∙ two-pow-succ i
 
-  pub bounded : i < 54 → r < 0x40000000000000
-  bounded l = lt_of_lt_of_le h.small (pow_mono {i = i} {j = 54} (let k = l in omega arith))
+  pub bounded : i ≤ 54 → r < 0x40000000000000
+  bounded l = lt_of_lt_of_le h.small (pow_mono {i = i} {j = 54} l)
 
   -- the digit is 1
   pub one_more : r * 4 + 1 ≤ m * 4 + a / 0x10000000000000 → State sig (a % 0x10000000000000 * 4) (r * 2 + 1) (m * 4 + a / 0x10000000000000 - (r * 4 + 1)) (i + 1)

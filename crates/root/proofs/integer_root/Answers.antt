@@ -1,49 +1,24 @@
--- `root::integer_root` meets its contract. The loop's invariant is `State`: the root and the rest of the digits passed.
--- Assumes nothing.
-use mathlib.Core.Path.{subst}
-use Prim.Native.Nat.{ℕ, ◌<◌}
-use native.Mathlib.Omega.{arith}
-use borrow.Author.Rules.{rules}
+-- `root::integer_root` meets its contract, by one digit of the root at a time (proofs/Steps.antt). Assumes nothing.
+use Rattle.std.proofs.Common.{◌≡◌, ℕ, ◌<◌, ◌≤◌, subst, arith}
 use Rattle.root.proofs.Steps.{State, bounded, one_more, no_more, all_steps}
 use Rattle.root.proofs.integer_root.Goals as goal
 use Rattle.root.proofs.integer_root.Goals.{else-least-next, then-least-next}
 
-pub loop-step-init : goal.loop-step-init
-loop-step-init c = (omega arith, record { left = c.requires; rest = omega arith; small = omega arith; sum = omega arith })
+-- one step, with the bound
+step : {sig a r m i : ℕ} → State sig a r m i → i ≤ 54 → record { state : State sig a r m i; few : r < 0x40000000000000 }
+step {sig} {a} {r} {m} {i} h l = record { state = h; few = bounded sig a r m i h l }
 
-small : (c : goal.In-loop-step) → c.loop-step.root < 0x40000000000000
-small c = let l = c in bounded l.args.sig l.loop-step.digits l.loop-step.root l.loop-step.rest l.loop-step.step l.loop-step.invariant.1 (omega arith)
-
-pub overflow_mul-next : goal.overflow_mul-next
-overflow_mul-next c = omega (arith, small c)
-
-pub overflow_add-next : goal.overflow_add-next
-overflow_add-next c = omega (arith, small c)
-
-pub overflow_mul-least : goal.overflow_mul-least
-overflow_mul-least c = omega (arith, small c)
-
-pub overflow_add-least : goal.overflow_add-least
-overflow_add-least c = omega (arith, small c)
-
-pub overflow_mul-root : goal.overflow_mul-root
-overflow_mul-root c = omega (arith, small c.before)
-
-pub overflow_add-root : goal.overflow_add-root
-overflow_add-root c = omega (arith, small c.before)
-
-pub overflow_mul-root-else-least-next : goal.overflow_mul-root-else-least-next
-overflow_mul-root-else-least-next c = omega (arith, small c.before)
-
-pub loop-step-preserved : goal.loop-step-preserved
-loop-step-preserved c =
-    let l = c in (
-      search rules,
-      elim c.if-least-next.branch [ then-least-next w ↦ rw (w.root-is, w.rest-is) (one_more l.args.sig l.loop-step.digits l.loop-step.root l.loop-step.rest l.loop-step.step l.loop-step.invariant.1 (omega (arith, w.if-least-next.true))) | else-least-next w ↦ rw (w.root-is, w.rest-is) (no_more l.args.sig l.loop-step.digits l.loop-step.root l.loop-step.rest l.loop-step.step l.loop-step.invariant.1 (omega (arith, w.if-least-next.false))) ],
-    )
+pub loop-preserved : goal.loop-preserved
+loop-preserved c =
+    let l = c.loop in
+    let s = l.invariant.state in
+    elim c.if-least-next.branch [
+      | then-least-next w ↦ rw (w.root-is, w.rest-is) (step (one_more c.args.sig l.digits l.root l.rest l.counter s w.if-least-next.true) (omega arith))
+      | else-least-next w ↦ rw (w.root-is, w.rest-is) (step (no_more c.args.sig l.digits l.root l.rest l.counter s w.if-least-next.false) (omega arith))
+    ]
 
 pub returns : goal.returns
 returns c =
-    let l = c in
-    all_steps l.args.sig l.loop-step.digits l.loop-step.root l.loop-step.rest
-    (subst (λ (n : ℕ). State l.args.sig l.loop-step.digits l.loop-step.root l.loop-step.rest n) (omega arith) l.loop-step.invariant.1)
+    let l = c.loop in
+    let all : l.counter ≡ 54 = omega arith in
+    all_steps c.args.sig l.digits l.root l.rest (subst (State c.args.sig l.digits l.root l.rest) all l.invariant.state)

@@ -1,37 +1,12 @@
 -- `root::sqrt` meets its contract, by the pattern of x. Assumes nothing.
-use mathlib.Core.Path.{◌≡◌, refl, sym, ap, ◌∙◌, subst}
-use Prim.Native.Nat.{ℕ, zero, suc, ◌+◌, ◌*◌, ◌/◌, ◌%◌, ◌^◌, ◌≤◌}
-use native.Mathlib.Nat.{zero-mul}
-use native.Mathlib.Omega.{arith}
-use mathlib.Core.Bool.{Bool, true, false, not, cond, true≢false}
-use lib.Dec.{T, leb, eqb, nltb→le}
-use lib.IntN.{ℤ}
-use lib.Ieee.{Float, nan, inf, fin, Format, binary64, prec, emax, low, hid, up, down, div, odd, of_bits, of_fields, to_bits, is_nan}
-use lib.Ieee.Compare.{differs_from_itself}
+use Rattle.std.proofs.Common.{◌≡◌, ℕ, zero, suc, ◌+◌, ◌*◌, ◌/◌, ◌%◌, ◌^◌, ◌≤◌, ◌<◌, Bool, true, false, not, cond, T, eqb, leb, ℤ, inl, inr, refl, sym, ap, ◌∙◌, subst, true≢false, zero-mul, mod-eq_of_lt, arith, leb→le, lt→ltb, le-leb}
+use lib.Dec.{nleb→lt}
+use lib.Ieee.{Float, nan, inf, fin, Format, binary64, prec, emax, low, hid, up, down, odd, of_bits, of_fields, to_bits, is_nan, fits}
 use lib.Ieee.Bits.{of_bits-to_bits, nan_bits_is, nan_bits_above}
-use borrow.Author.Tests.{le-leb, lt-leb}
-use Rattle.ieee.specs.Bounds.{NotNegative}
-use Rattle.narrow.proofs.PackLaw.{to_bits_at, equal_not_nan}
+use Rattle.narrow.proofs.PackLaw.{to_bits_at}
 use Rattle.root.specs.Sqrt.{sqrt_of}
-use Rattle.root.proofs.Bounds.{sqrt_fits, sqrt_no_nan}
+use Rattle.root.proofs.Bounds.{sqrt_fits}
 use Rattle.root.proofs.sqrt.Goals as goal
-
--- ---- the values that are their own roots
-of_nan : sqrt_of binary64 nan ≡ nan
-unfolding sqrt_of
-of_nan = refl
-
-own_zero : (x : Float) → x ≡ of_bits binary64 0 → x ≡ sqrt_of binary64 x
-unfolding sqrt_of of_bits
-own_zero x e = e ∙ ap (sqrt_of binary64) (sym e)
-
-own_inf : (x : Float) → x ≡ of_bits binary64 0x7ff0000000000000 → x ≡ sqrt_of binary64 x
-unfolding sqrt_of of_bits
-own_inf x e = e ∙ ap (sqrt_of binary64) (sym e)
-
-own_minus : (x : Float) → x ≡ of_bits binary64 0x8000000000000000 → x ≡ sqrt_of binary64 x
-unfolding sqrt_of of_bits
-own_minus x e = e ∙ ap (sqrt_of binary64) (sym e)
 
 -- ---- signs
 abbrev Signed : Bool → Float → Type 0
@@ -60,13 +35,6 @@ bits_signed b s h =
     subst (λ (t : Bool). Signed s (of_fields binary64 t (b % 0x8000000000000000 / 0x10000000000000) (b % 0x10000000000000))) (sym h)
     (fields_signed binary64 s (b % 0x8000000000000000 / 0x10000000000000) (b % 0x10000000000000))
 
--- no minus sign, and no NaN
-not_negative : (x : Float) → Signed false x → T (not (is_nan x)) → NotNegative x
-unfolding is_nan
-not_negative nan m h = h
-not_negative (inf s) m h = m
-not_negative (fin s n e) m h = m
-
 -- the pattern of a zero
 zero_bits : (e : ℤ) → to_bits binary64 (fin true 0 e) ≡ 0x8000000000000000
 unfolding to_bits
@@ -84,53 +52,59 @@ below_zero (fin true zero e) m h = absurd (h (zero_bits e))
 below_zero (fin true (suc n) e) m h = refl
 below_zero (fin false n e) m h = absurd (true≢false (sym m))
 
-pub returns-then-x : goal.returns-then-x
-returns-then-x c =
-    let e = differs_from_itself c.args.x (subst T (sym c.if-x.true) tt) in
-    e ∙ sym of_nan ∙ ap (sqrt_of binary64) (sym e)
+-- above infinity's are the patterns of NaNs, and of what has a minus sign
+nan_signed : (x : Float) → T (is_nan x) → Signed true x
+unfolding is_nan
+nan_signed nan h = tt
+nan_signed (inf s) h = absurd h
+nan_signed (fin s m e) h = absurd h
 
--- x is read back from its pattern
-back : (c : goal.Else-x) → of_bits binary64 (to_bits binary64 c.args.x) ≡ c.args.x
-back c = of_bits-to_bits binary64 c.args.x (subst T (sym c.well_formed.0.1) tt)
+above : (b : ℕ) → 0x7ff0000000000000 < b → Signed true (of_bits binary64 b)
+above b l = go (leb 0x8000000000000000 b) (leb→le 0x8000000000000000 b) (nleb→lt 0x8000000000000000 b)
+  where
+    go : (s : Bool) → (T s → 0x8000000000000000 ≤ b) → (T (not s) → b < 0x8000000000000000) → Signed true (of_bits binary64 b)
+    go true h k = bits_signed b true (le-leb 0x8000000000000000 b (h tt))
+    go false h k =
+        let m : b % 0x8000000000000000 ≡ b = mod-eq_of_lt (k tt) in
+        nan_signed (of_bits binary64 b) (subst T (sym (rw m at (nan_bits_above binary64 b)) ∙ nan_bits_is binary64 b) (lt→ltb 0x7ff0000000000000 b l))
 
-pub float_to_bits-b : goal.float_to_bits-b
-float_to_bits-b c = equal_not_nan c.args.x c.if-x.false
+-- ---- the patterns of the values that are their own roots
+abbrev Own : ℕ → Type 0
+Own n = sqrt_of binary64 (of_bits binary64 n) ≡ of_bits binary64 n
 
-pub returns-then-b-eq0 : goal.returns-then-b-eq0
-returns-then-b-eq0 c = own_zero c.args.x (sym (back c.before) ∙ ap (of_bits binary64) c.if-b-eq0.true)
+own_roots : Own 0 × Own 0x7ff0000000000000 × Own 0x7ff8000000000000 × Own 0x8000000000000000
+unfolding sqrt_of of_bits
+own_roots = (refl, refl, refl, refl)
 
-rooted : (c : goal.After-positive_root) → of_bits binary64 c.positive_root.result ≡ sqrt_of binary64 c.args.x
-rooted c =
+-- ---- x, by its pattern b
+module _ (x : Float) (b : ℕ) (fit : fits binary64 x ≡ true) (e : b ≡ to_bits binary64 x) where
+  back : of_bits binary64 b ≡ x
+  back = rw (e, of_bits-to_bits binary64 x (subst T (sym fit) tt))
+
+  own : (n : ℕ) → b ≡ n → Own n → x ≡ sqrt_of binary64 x
+  own n i r = rw (← back, i) (sym r)
+
+pub returns-in-0 : goal.returns-in-0
+returns-in-0 c =
     let x = c.args.x in
-    ap (of_bits binary64) (c.positive_root.ensures ∙ ap (λ (v : Float). to_bits binary64 (sqrt_of binary64 v)) (back c.before.before.before))
-    ∙ of_bits-to_bits binary64 (sqrt_of binary64 x) (sqrt_fits binary64 x (subst T (sym c.well_formed.0.1) tt))
+    let f = c.f64_to_bits_with_nan-b in
+    let self = own x f.result c.well_formed.0.1 f.ensures in
+    elim c.in-0.is [
+      | inl z ↦ self 0 z own_roots.0
+      | inr o ↦ elim o [ inl i ↦ self 0x7ff0000000000000 i own_roots.1 | inr p ↦ elim p [ inl n ↦ self 0x7ff8000000000000 n own_roots.2 | inr m ↦ self 0x8000000000000000 m own_roots.3 ] ]
+    ]
 
--- the pattern is no NaN's
-no_payload : (u : goal.Else-x) → to_bits binary64 u.args.x % 0x8000000000000000 ≤ 0x7ff0000000000000
-no_payload u =
-    let x = u.args.x in
-    nltb→le 0x7ff0000000000000 (to_bits binary64 x % 0x8000000000000000)
-    (subst (λ (b : Bool). T (not b)) (sym (ap is_nan (back u)) ∙ sym (nan_bits_is binary64 (to_bits binary64 x)) ∙ nan_bits_above binary64 (to_bits binary64 x)) (equal_not_nan x u.if-x.false))
+pub returns-in-1-to-9218868437227405311 : goal.returns-in-1-to-9218868437227405311
+returns-in-1-to-9218868437227405311 c =
+    let x = c.args.x in
+    let f = c.f64_to_bits_with_nan-b in
+    c.f64_from_bits_with_nan.ensures
+    ∙ rw (c.positive_root.ensures, back x f.result c.well_formed.0.1 f.ensures) (of_bits-to_bits binary64 (sqrt_of binary64 x) (sqrt_fits binary64 x (subst T (sym c.well_formed.0.1) tt)))
 
-pub float_from_bits-result : goal.float_from_bits-result
-float_from_bits-result c =
-    let u = c.before.before.before in
-    let x = u.args.x in
-    subst (λ (b : Bool). T (not b)) (sym (nan_bits_is binary64 c.positive_root.result ∙ ap is_nan (rooted c)))
-    (sqrt_no_nan binary64 x (not_negative x (subst (Signed false) (back u) (bits_signed (to_bits binary64 x) false (lt-leb 0x8000000000000000 (to_bits binary64 x) (omega arith)))) (equal_not_nan x u.if-x.false)))
-
-pub returns-then-b-lt9218868437227405312 : goal.returns-then-b-lt9218868437227405312
-returns-then-b-lt9218868437227405312 c = rooted c
-
-pub returns-then-b-eq9218868437227405312 : goal.returns-then-b-eq9218868437227405312
-returns-then-b-eq9218868437227405312 c = own_inf c.args.x (sym (back c.before.before.before) ∙ ap (of_bits binary64) c.if-b-eq9218868437227405312.true)
-
-pub returns-then-b : goal.returns-then-b
-returns-then-b c = own_minus c.args.x (sym (back c.before.before.before.before) ∙ ap (of_bits binary64) c.if-b.true)
-
-pub returns : goal.returns
-unfolding div of_bits
-returns c =
-    let u = c.before.before.before.before in
-    let x = u.args.x in
-    sym (below_zero x (subst (Signed true) (back u) (bits_signed (to_bits binary64 x) true (le-leb 0x8000000000000000 (to_bits binary64 x) (omega (arith, no_payload u))))) c.if-b.false)
+pub returns-in_default : goal.returns-in_default
+unfolding of_bits
+returns-in_default c =
+    let x = c.args.x in
+    let f = c.f64_to_bits_with_nan-b in
+    let past : (0x7ff0000000000000 < f.result) × (f.result ≡ 0x8000000000000000 → ⊥) = (grind arith, grind arith) in
+    sym (below_zero x (subst (Signed true) (back x f.result c.well_formed.0.1 f.ensures) (above f.result past.0)) (λ e. past.1 (f.ensures ∙ e)))
