@@ -1,15 +1,13 @@
--- The paper's default profile: what it comes to by the checks,
--- and that a profile that is built is valid. Assumes nothing.
-use Rattle.std.proofs.Common.{◌≡◌, ℕ, sym, ◌∙◌, subst}
+-- The paper's default profile: one that is built is valid. Assumes nothing.
+use Rattle.std.proofs.Common.{◌≡◌, ℕ, subst}
 use lib.Ieee.{Float}
-use Rattle.error.specs.Numbers.{Outcome, completed, refusal, also}
-use Rattle.error.specs.declared.Refusal.{Refusal}
+use Rattle.error.specs.Numbers.{Outcome, completed, also}
 use Rattle.profile.specs.declared.FibQuantProfile.{FibQuantProfile}
 use Rattle.profile.specs.Fields.{profile_schema, rotation_algorithm}
 use Rattle.profile.specs.Checks.{shape_of, validity}
 use Rattle.profile.specs.Valid.{Valid}
 use Rattle.profile.specs.Paper.{profile_of, paper_of}
-use Rattle.error.proofs.Refusals.{also_refused, also_then, also_first, also_next}
+use Rattle.error.proofs.Refusals.{also_first, also_next}
 use Rattle.profile.proofs.Facts.{valid}
 
 module _ (d k n seed : ℕ) (log2 : Float) where
@@ -18,20 +16,6 @@ module _ (d k n seed : ℕ) (log2 : Float) where
 
   abbrev rest : Outcome FibQuantProfile
   rest = also checks (completed (profile_of d k n seed log2))
-
-  pub shape_refused : (r : Refusal) → shape_of d k n ≡ refusal r → refusal r ≡ paper_of d k n seed log2
-  unfolding paper_of
-  shape_refused r h = sym (also_refused (shape_of d k n) rest r h)
-
-  pub checks_refused : (r : Refusal) → shape_of d k n ≡ completed tt → checks ≡ refusal r
-      → refusal r ≡ paper_of d k n seed log2
-  unfolding paper_of
-  checks_refused r s h = sym (also_then (shape_of d k n) rest s ∙ also_refused checks (completed (profile_of d k n seed log2)) r h)
-
-  pub built : shape_of d k n ≡ completed tt → checks ≡ completed tt
-      → completed (profile_of d k n seed log2) ≡ paper_of d k n seed log2
-  unfolding paper_of
-  built s h = sym (also_then (shape_of d k n) rest s ∙ also_then checks (completed (profile_of d k n seed log2)) h)
 
   -- a profile that is built passes its own checks
   pub built_passes : (p : FibQuantProfile) → paper_of d k n seed log2 ≡ completed p → validity p profile_schema rotation_algorithm log2 ≡ completed tt

@@ -4,41 +4,13 @@
 use Rattle.std.specs.Prelude.{ℕ, ◌+◌, ◌-◌, ◌*◌, ◌/◌, ◌%◌, ◌^◌, min, max, cond, [], ◌∷◌, pos, ◌==◌, nat_lt, Float}
 use Rattle.std.specs.Float.{binary64}
 use Rattle.std.specs.Float.Ieee.{of_int}
-use Rattle.error.specs.Numbers.{Outcome, completed, refused, whole, refusal, also}
+use Rattle.error.specs.Numbers.{Outcome, completed, refused, whole, also}
 use Rattle.profile.specs.declared.NormFormat.TheVariants.{Fp16Paper}
 use Rattle.profile.specs.declared.SourceMode.TheVariants.{CanonicalSphericalBeta}
 use Rattle.profile.specs.declared.EmptyCellPolicy.TheVariants.{SplitHighestDistortion}
 use Rattle.profile.specs.declared.FibQuantProfile.{FibQuantProfile}
-use Rattle.profile.specs.declared.PaperProfile.{PaperProfile}
-use Rattle.profile.specs.declared.PaperProfile.TheVariants as paper
-use Rattle.profile.specs.declared.WireBits.{WireBits}
-use Rattle.profile.specs.declared.WireBits.TheVariants as wire
-use Rattle.profile.specs.declared.BlockCount.{BlockCount}
-use Rattle.profile.specs.declared.BlockCount.TheVariants as blocks
-use Rattle.profile.specs.declared.Samples.{Samples}
-use Rattle.profile.specs.declared.Samples.TheVariants as samples
 use Rattle.profile.specs.Fields.{profile_schema, rotation_algorithm, radius_for, direction_for, index_width}
 use Rattle.profile.specs.Checks.{shape_of, per_coord, validity}
-
--- ---- the answers as outcomes
-
-abbrev pub paper_profile : PaperProfile → Outcome FibQuantProfile
-paper_profile (paper.Built p) = completed p
-paper_profile (paper.Refused r) = refusal r
-
-abbrev pub wire_bits : WireBits → Outcome ℕ
-wire_bits (wire.Bits w) = completed w
-wire_bits (wire.Refused r) = refusal r
-
-abbrev pub block_count : BlockCount → Outcome ℕ
-block_count (blocks.Blocks b) = completed b
-block_count (blocks.Refused r) = refusal r
-
-abbrev pub sample_count : Samples → Outcome ℕ
-sample_count (samples.Count s) = completed s
-sample_count (samples.Refused r) = refusal r
-
--- ---- what each is
 
 abbrev pub wire_bits_of : ℕ → Outcome ℕ
 wire_bits_of n = cond (nat_lt n 2) (refused 4 (whole n ∷ [])) (completed (index_width n))

@@ -1,111 +1,87 @@
-// The single checks of a profile. Each answers for every input; `also` puts one before another.
+// The single checks of a profile. Each answers for every input.
 ghost use Rattle.std.specs.Prelude.{◌≡◌};
-ghost use Rattle.error.specs.Numbers.{checked};
-ghost use Rattle.error.specs.Numbers as numbers;
+ghost use Rattle.error.specs.Names.{field_number};
+ghost use Rattle.error.specs.Numbers.{outcome};
 ghost use Rattle.std.specs.Float.Ieee.{le};
-ghost use Rattle.profile.specs.Fields.{same_bytes, abs, tolerance, rate_agrees, radius_for, direction_for, same_radius, same_direction, index_width};
+ghost use Rattle.profile.specs.Fields.{same_bytes, abs, tolerance, rate_agrees, radius_for, direction_for, index_width};
 ghost use Rattle.profile.specs.Checks as valid;
 
 use crate::{DirectionMethod, FibQuantProfile, NormFormat, RadiusMethod, SourceMode};
-use error::{Checked, Refusal, names};
-
-// The first refusal of two.
-pub fn also(first: Checked, second: Checked) -> Checked
-    ensures { checked result ≡ numbers.also (checked first) (checked second) }
-{
-    match first {
-        Checked::Accepted => second,
-        Checked::Refused(r) => Checked::Refused(r),
-    }
-}
+use error::{Field, Refusal};
 
 // Whether a and b hold the same bytes.
 pub fn same(a: &[u8], b: &[u8]) -> bool
     ensures { result ≡ same_bytes a.now b.now }
 {
-    if a.len() != b.len() {
-        return false;
-    }
-    let mut i = 0;
-    while i < a.len() {
-        if a[i] != b[i] {
-            return false;
-        }
-        i += 1;
-    }
-    true
+    a == b
 }
 
 // A string that has to be the one expected.
-pub fn named(field: u32, given: &[u8], expected: &[u8]) -> Checked
-    ensures { checked result ≡ valid.named field given.now expected.now }
+pub fn named(field: Field, given: &[u8], expected: &[u8]) -> Result<(), Refusal>
+    ensures { outcome result ≡ valid.named (field_number field) given.now expected.now }
 {
     if same(given, expected) {
-        return Checked::Accepted;
+        return Ok(());
     }
-    Checked::Refused(Refusal::ProfileField(field))
+    Err(Refusal::ProfileField(field))
 }
 
 // Dimensions and codebook size.
 #[tactic(auto, unfolding(crate::specs::Checks::shape_of))]
-pub fn shape(d: u64, k: u64, n: u64) -> Checked
-    ensures { checked result ≡ valid.shape_of d k n }
+pub fn shape(d: u64, k: u64, n: u64) -> Result<(), Refusal>
+    ensures { outcome result ≡ valid.shape_of d k n }
 {
     if d == 0 {
-        return Checked::Refused(Refusal::ZeroDimension);
+        return Err(Refusal::ZeroDimension);
     }
     if k == 0 || d <= k {
-        return Checked::Refused(Refusal::InvalidBlockDim {
+        return Err(Refusal::InvalidBlockDim {
             ambient_dim: d,
             block_dim: k,
         });
     }
     if d % k != 0 {
-        return Checked::Refused(Refusal::DimensionNotDivisible {
+        return Err(Refusal::DimensionNotDivisible {
             ambient_dim: d,
             block_dim: k,
         });
     }
     if FibQuantProfile::MAX_AMBIENT_DIM < d {
-        return Checked::Refused(Refusal::ResourceLimitExceeded);
+        return Err(Refusal::ResourceLimitExceeded);
     }
     if FibQuantProfile::MAX_BLOCK_DIM < k {
-        return Checked::Refused(Refusal::ResourceLimitExceeded);
+        return Err(Refusal::ResourceLimitExceeded);
     }
     if n < 2 || FibQuantProfile::MAX_CODEBOOK_SIZE < n {
-        return Checked::Refused(Refusal::InvalidCodebookSize(n));
+        return Err(Refusal::InvalidCodebookSize(n));
     }
-    Checked::Accepted
+    Ok(())
 }
 
 // The values of a rotation matrix and of a codebook.
-pub fn sizes(d: u32, k: u32, n: u32) -> Checked
-    ensures { checked result ≡ valid.sizes_of d k n }
+pub fn sizes(d: u32, k: u32, n: u32) -> Result<(), Refusal>
+    ensures { outcome result ≡ valid.sizes_of d k n }
 {
     if FibQuantProfile::MAX_ROTATION_MATRIX_VALUES < d as u64 * d as u64 {
-        return Checked::Refused(Refusal::ResourceLimitExceeded);
+        return Err(Refusal::ResourceLimitExceeded);
     }
     if FibQuantProfile::MAX_CODEBOOK_VALUES < n as u64 * k as u64 {
-        return Checked::Refused(Refusal::ResourceLimitExceeded);
+        return Err(Refusal::ResourceLimitExceeded);
     }
-    Checked::Accepted
+    Ok(())
 }
 
 // Norm format and source of the samples.
-pub fn formats(norm: NormFormat, source: SourceMode) -> Checked
-    ensures { checked result ≡ valid.formats_of norm source }
+pub fn formats(norm: NormFormat, source: SourceMode) -> Result<(), Refusal>
+    ensures { outcome result ≡ valid.formats_of norm source }
 {
-    match norm {
-        NormFormat::Fp16Paper => match source {
-            SourceMode::CanonicalSphericalBeta => Checked::Accepted,
-            SourceMode::ReferenceGaussianProjection => Checked::Refused(Refusal::ProfileField(
-                names::SOURCE_MODE_FIELD,
-            )),
-        },
-        NormFormat::F32Reference => Checked::Refused(Refusal::ProfileField(
-            names::NORM_FORMAT_FIELD,
-        )),
+    if norm != NormFormat::Fp16Paper {
+        return Err(Refusal::ProfileField(Field::NormFormat));
     }
+    if source != SourceMode::CanonicalSphericalBeta {
+        return Err(Refusal::ProfileField(Field::SourceMode));
+    }
+    Ok(())
 }
 
 // The least number of bits that holds every index below n: 0 where n is 0 or 1.
@@ -118,44 +94,36 @@ pub fn index_width(n: u64) -> u8
     (64 - u64::leading_zeros(n - 1)) as u8
 }
 
-pub fn width(bits: u8, n: u32) -> Checked
-    ensures { checked result ≡ valid.width_of bits n }
+pub fn width(bits: u8, n: u32) -> Result<(), Refusal>
+    ensures { outcome result ≡ valid.width_of bits n }
 {
     if bits != index_width(n as u64) {
-        return Checked::Refused(Refusal::ProfileField(names::WIRE_BITS_FIELD));
+        return Err(Refusal::ProfileField(Field::WireBits));
     }
-    Checked::Accepted
+    Ok(())
 }
 
 // Whether a difference is at most the tolerance, either way.
 fn is_small(difference: f64) -> bool
     ensures { result ≡ le (abs difference) tolerance }
 {
-    if difference <= FibQuantProfile::RATE_TOLERANCE {
-        return -FibQuantProfile::RATE_TOLERANCE <= difference;
-    }
-    false
+    difference <= FibQuantProfile::RATE_TOLERANCE && -FibQuantProfile::RATE_TOLERANCE <= difference
 }
 
 fn rate_agrees(given: f64, expected: f64) -> bool
     ensures { result ≡ rate_agrees given expected }
 {
-    if ieee::is_finite(given) {
-        if ieee::is_finite(expected) {
-            return is_small(given - expected);
-        }
-    }
-    false
+    ieee::is_finite(given) && ieee::is_finite(expected) && is_small(given - expected)
 }
 
 // A rate against the one expected.
-pub fn rate(field: u32, given: f64, expected: f64) -> Checked
-    ensures { checked result ≡ valid.rate_of field given expected }
+pub fn rate(field: Field, given: f64, expected: f64) -> Result<(), Refusal>
+    ensures { outcome result ≡ valid.rate_of (field_number field) given expected }
 {
     if rate_agrees(given, expected) {
-        return Checked::Accepted;
+        return Ok(());
     }
-    Checked::Refused(Refusal::ProfileRate {
+    Err(Refusal::ProfileRate {
         field,
         given,
         expected,
@@ -185,75 +153,30 @@ pub fn direction_for(k: u32) -> DirectionMethod
     DirectionMethod::RobertsKronecker
 }
 
-fn same_radius(a: RadiusMethod, b: RadiusMethod) -> bool
-    ensures { result ≡ same_radius a b }
-{
-    match a {
-        RadiusMethod::BetaQuantile => match b {
-            RadiusMethod::BetaQuantile => true,
-            RadiusMethod::K2ClosedForm => false,
-            RadiusMethod::LargeDSingleShellExplicit => false,
-        },
-        RadiusMethod::K2ClosedForm => match b {
-            RadiusMethod::BetaQuantile => false,
-            RadiusMethod::K2ClosedForm => true,
-            RadiusMethod::LargeDSingleShellExplicit => false,
-        },
-        RadiusMethod::LargeDSingleShellExplicit => match b {
-            RadiusMethod::BetaQuantile => false,
-            RadiusMethod::K2ClosedForm => false,
-            RadiusMethod::LargeDSingleShellExplicit => true,
-        },
-    }
-}
-
-fn same_direction(a: DirectionMethod, b: DirectionMethod) -> bool
-    ensures { result ≡ same_direction a b }
-{
-    match a {
-        DirectionMethod::FibonacciSpiral => match b {
-            DirectionMethod::FibonacciSpiral => true,
-            DirectionMethod::FibonacciSphere => false,
-            DirectionMethod::RobertsKronecker => false,
-        },
-        DirectionMethod::FibonacciSphere => match b {
-            DirectionMethod::FibonacciSpiral => false,
-            DirectionMethod::FibonacciSphere => true,
-            DirectionMethod::RobertsKronecker => false,
-        },
-        DirectionMethod::RobertsKronecker => match b {
-            DirectionMethod::FibonacciSpiral => false,
-            DirectionMethod::FibonacciSphere => false,
-            DirectionMethod::RobertsKronecker => true,
-        },
-    }
-}
-
 // The two methods against those for blocks of k values.
-pub fn methods(k: u32, radius: RadiusMethod, direction: DirectionMethod) -> Checked
-    ensures { checked result ≡ valid.methods_of k radius direction }
+pub fn methods(k: u32, radius: RadiusMethod, direction: DirectionMethod) -> Result<(), Refusal>
+    ensures { outcome result ≡ valid.methods_of k radius direction }
 {
-    if same_radius(radius, radius_for(k)) {
-        if same_direction(direction, direction_for(k)) {
-            return Checked::Accepted;
-        }
+    if radius == radius_for(k) && direction == direction_for(k) {
+        Ok(())
+    } else {
+        Err(Refusal::ProfileField(Field::MethodPair))
     }
-    Checked::Refused(Refusal::ProfileField(names::METHOD_PAIR_FIELD))
 }
 
 // Restarts, iterations and training samples, of a codebook of n.
 #[tactic(auto, unfolding(crate::specs::Checks::settings_of))]
-pub fn settings(restarts: u32, iterations: u32, samples: u32, n: u32) -> Checked
-    ensures { checked result ≡ valid.settings_of restarts iterations samples n }
+pub fn settings(restarts: u32, iterations: u32, samples: u32, n: u32) -> Result<(), Refusal>
+    ensures { outcome result ≡ valid.settings_of restarts iterations samples n }
 {
     if restarts == 0 || FibQuantProfile::MAX_LLOYD_RESTARTS < restarts {
-        return Checked::Refused(Refusal::ProfileField(names::RESTARTS_FIELD));
+        return Err(Refusal::ProfileField(Field::Restarts));
     }
     if iterations == 0 || FibQuantProfile::MAX_LLOYD_ITERATIONS < iterations {
-        return Checked::Refused(Refusal::ProfileField(names::ITERATIONS_FIELD));
+        return Err(Refusal::ProfileField(Field::Iterations));
     }
     if samples < n || FibQuantProfile::MAX_TRAINING_SAMPLES < samples {
-        return Checked::Refused(Refusal::ProfileField(names::SAMPLES_FIELD));
+        return Err(Refusal::ProfileField(Field::Samples));
     }
-    Checked::Accepted
+    Ok(())
 }

@@ -7,28 +7,28 @@
 pub mod checks;
 
 ghost use Rattle.std.specs.Prelude.{◌≡◌};
-ghost use Rattle.error.specs.Numbers.{checked};
+ghost use Rattle.error.specs.Numbers.{outcome};
 ghost use Rattle.profile.specs.Checks.{validity, numbers_of};
-ghost use Rattle.profile.specs.Paper.{paper_profile, paper_of, profile_of, wire_bits, wire_bits_of, block_count, block_count_of, sample_count, samples_of, within_limits};
+ghost use Rattle.profile.specs.Paper.{paper_of, profile_of, wire_bits_of, block_count_of, samples_of, within_limits};
 
-use error::{Checked, Refusal, names};
+use error::{Field, Refusal};
 
 // How the norm of a vector is stored.
-#[derive(Clone, Copy)]
+#[derive(Clone, Copy, Debug, PartialEq, Eq)]
 pub enum NormFormat {
     Fp16Paper,
     F32Reference,
 }
 
 // Where training samples come from.
-#[derive(Clone, Copy)]
+#[derive(Clone, Copy, Debug, PartialEq, Eq)]
 pub enum SourceMode {
     CanonicalSphericalBeta,
     ReferenceGaussianProjection,
 }
 
 // How the radii of the initial codewords are chosen.
-#[derive(Clone, Copy)]
+#[derive(Clone, Copy, Debug, PartialEq, Eq)]
 pub enum RadiusMethod {
     BetaQuantile,
     K2ClosedForm,
@@ -36,7 +36,7 @@ pub enum RadiusMethod {
 }
 
 // How their directions are chosen.
-#[derive(Clone, Copy)]
+#[derive(Clone, Copy, Debug, PartialEq, Eq)]
 pub enum DirectionMethod {
     FibonacciSpiral,
     FibonacciSphere,
@@ -44,14 +44,14 @@ pub enum DirectionMethod {
 }
 
 // What an update does about a cell without samples.
-#[derive(Clone, Copy)]
+#[derive(Clone, Copy, Debug, PartialEq, Eq)]
 pub enum EmptyCellPolicy {
     SplitHighestDistortion,
     FailClosed,
 }
 
 // The strings that are tested, schema and rotation algorithm, are handed in beside it.
-#[derive(Clone, Copy)]
+#[derive(Clone, Copy, Debug, PartialEq)]
 pub struct FibQuantProfile {
     pub ambient_dim: u32,
     pub block_dim: u32,
@@ -69,30 +69,6 @@ pub struct FibQuantProfile {
     pub lloyd_iterations: u32,
     pub training_samples: u32,
     pub empty_cell_policy: EmptyCellPolicy,
-}
-
-#[derive(Clone, Copy)]
-pub enum PaperProfile {
-    Built(FibQuantProfile),
-    Refused(Refusal),
-}
-
-#[derive(Clone, Copy)]
-pub enum WireBits {
-    Bits(u8),
-    Refused(Refusal),
-}
-
-#[derive(Clone, Copy)]
-pub enum BlockCount {
-    Blocks(u32),
-    Refused(Refusal),
-}
-
-#[derive(Clone, Copy)]
-pub enum Samples {
-    Count(u32),
-    Refused(Refusal),
 }
 
 impl FibQuantProfile {
@@ -122,13 +98,10 @@ impl FibQuantProfile {
         codebook_size: u64,
         seed: u64,
         log2: f64,
-    ) -> PaperProfile
-        ensures { paper_profile result ≡ paper_of ambient_dim block_dim codebook_size seed log2 }
+    ) -> Result<FibQuantProfile, Refusal>
+        ensures { outcome result ≡ paper_of ambient_dim block_dim codebook_size seed log2 }
     {
-        let shape = checks::shape(ambient_dim, block_dim, codebook_size);
-        if let Checked::Refused(r) = shape {
-            return PaperProfile::Refused(r);
-        }
+        checks::shape(ambient_dim, block_dim, codebook_size)?;
         let profile = paper_fields(
             ambient_dim as u32,
             block_dim as u32,
@@ -136,118 +109,103 @@ impl FibQuantProfile {
             seed,
             log2,
         );
-        let verdict = profile.validate(
+        profile.validate(
             b"fib_quant_profile_v1",
             b"qr-gaussian-chacha8-sign-corrected-v1",
             log2,
-        );
-        match verdict {
-            Checked::Accepted => PaperProfile::Built(profile),
-            Checked::Refused(r) => PaperProfile::Refused(r),
-        }
+        )?;
+        Ok(profile)
     }
 
-    // Every check of the profile. Each answers for every profile, so the order stands in the calls of `also` alone.
-    pub fn validate(self, schema: &[u8], rotation_algorithm: &[u8], log2: f64) -> Checked
-        ensures { checked result ≡ validity self schema.now rotation_algorithm.now log2 }
+    // Every check of the profile, in their order.
+    pub fn validate(
+        self,
+        schema: &[u8],
+        rotation_algorithm: &[u8],
+        log2: f64,
+    ) -> Result<(), Refusal>
+        ensures { outcome result ≡ validity self schema.now rotation_algorithm.now log2 }
     {
         let d = self.ambient_dim;
         let k = self.block_dim;
         let n = self.codebook_size;
-        let norm = self.norm_format;
-        let source = self.source_mode;
-        let rotation = b"qr-gaussian-chacha8-sign-corrected-v1";
-        let schema_named = checks::named(names::SCHEMA_FIELD, schema, b"fib_quant_profile_v1");
-        let shape = checks::shape(d as u64, k as u64, n as u64);
-        let sizes = checks::sizes(d, k, n);
-        let formats = checks::formats(norm, source);
-        let rotation_named = checks::named(
-            names::ROTATION_ALGORITHM_FIELD,
+        checks::named(Field::Schema, schema, b"fib_quant_profile_v1")?;
+        checks::shape(d as u64, k as u64, n as u64)?;
+        checks::sizes(d, k, n)?;
+        checks::formats(self.norm_format, self.source_mode)?;
+        checks::named(
+            Field::RotationAlgorithm,
             rotation_algorithm,
-            rotation,
-        );
-        let numbers = self.numbers(log2);
-        let from_formats = checks::also(formats, checks::also(rotation_named, numbers));
-        let from_shape = checks::also(shape, checks::also(sizes, from_formats));
-        checks::also(schema_named, from_shape)
+            b"qr-gaussian-chacha8-sign-corrected-v1",
+        )?;
+        self.numbers(log2)
     }
 
     // The fields from the width on.
-    fn numbers(self, log2: f64) -> Checked
-        ensures { checked result ≡ numbers_of self log2 }
+    fn numbers(self, log2: f64) -> Result<(), Refusal>
+        ensures { outcome result ≡ numbers_of self log2 }
     {
         let k = self.block_dim;
         let n = self.codebook_size;
-        let bits = self.wire_index_bits;
-        let radius = self.radius_method;
-        let direction = self.direction_method;
-        let restarts = self.lloyd_restarts;
-        let iterations = self.lloyd_iterations;
-        let samples = self.training_samples;
-        let width = checks::width(bits, n);
-        let paper = checks::rate(
-            names::PAPER_RATE_FIELD,
+        checks::width(self.wire_index_bits, n)?;
+        checks::rate(
+            Field::PaperRate,
             self.paper_rate_bits_per_coord,
             log2 / k as f64,
-        );
-        let wire = checks::rate(
-            names::WIRE_RATE_FIELD,
+        )?;
+        checks::rate(
+            Field::WireRate,
             self.wire_bits_per_coord,
-            bits as f64 / k as f64,
-        );
-        let methods = checks::methods(k, radius, direction);
-        let settings = checks::settings(restarts, iterations, samples, n);
-        let from_methods = checks::also(methods, settings);
-        checks::also(width, checks::also(checks::also(paper, wire), from_methods))
+            self.wire_index_bits as f64 / k as f64,
+        )?;
+        checks::methods(k, self.radius_method, self.direction_method)?;
+        checks::settings(
+            self.lloyd_restarts,
+            self.lloyd_iterations,
+            self.training_samples,
+            n,
+        )
     }
 
     // How many blocks a vector has.
-    pub fn block_count(self) -> BlockCount
-        ensures { block_count result ≡ block_count_of self.ambient_dim self.block_dim }
+    pub fn block_count(self) -> Result<u32, Refusal>
+        ensures { outcome result ≡ block_count_of self.ambient_dim self.block_dim }
     {
-        let d = self.ambient_dim;
-        let k = self.block_dim;
-        if k == 0 {
-            return BlockCount::Refused(Refusal::InvalidBlockDim {
-                ambient_dim: d as u64,
-                block_dim: k as u64,
+        if self.block_dim == 0 {
+            return Err(Refusal::InvalidBlockDim {
+                ambient_dim: self.ambient_dim as u64,
+                block_dim: self.block_dim as u64,
             });
         }
-        BlockCount::Blocks(d / k)
+        Ok(self.ambient_dim / self.block_dim)
     }
 }
 
 // The width of one index of a codebook of that size.
-pub fn wire_index_bits(codebook_size: u64) -> WireBits
-    ensures { wire_bits result ≡ wire_bits_of codebook_size }
+pub fn wire_index_bits(codebook_size: u64) -> Result<u8, Refusal>
+    ensures { outcome result ≡ wire_bits_of codebook_size }
 {
     if codebook_size < 2 {
-        return WireBits::Refused(Refusal::InvalidCodebookSize(codebook_size));
+        return Err(Refusal::InvalidCodebookSize(codebook_size));
     }
-    WireBits::Bits(checks::index_width(codebook_size))
+    Ok(checks::index_width(codebook_size))
 }
 
 // The number of training samples of the paper's profile.
-pub fn default_training_samples(codebook_size: u64) -> Samples
-    ensures { sample_count result ≡ samples_of codebook_size }
+pub fn default_training_samples(codebook_size: u64) -> Result<u32, Refusal>
+    ensures { outcome result ≡ samples_of codebook_size }
 {
     if u64::MAX / 30 < codebook_size {
-        return Samples::Refused(Refusal::ResourceLimitExceeded);
+        return Err(Refusal::ResourceLimitExceeded);
     }
-    Samples::Count(within_limits(30 * codebook_size))
+    Ok(within_limits(30 * codebook_size))
 }
 
 // A number of samples, kept within the limits.
 fn within_limits(samples: u64) -> u32
     ensures { result ≡ within_limits samples }
 {
-    if samples < 256 {
-        return 256;
-    }
-    if (FibQuantProfile::MAX_TRAINING_SAMPLES as u64) < samples {
-        return FibQuantProfile::MAX_TRAINING_SAMPLES;
-    }
-    samples as u32
+    samples.clamp(256, FibQuantProfile::MAX_TRAINING_SAMPLES as u64) as u32
 }
 
 // The paper's profile, not checked.

@@ -8,6 +8,6 @@ pub returns-then-difference : goal.returns-then-difference
 unfolding of_bits round neg
 returns-then-difference c = rw (abs_le c.args.difference, c.if-difference.true)
 
-pub returns : goal.returns
+pub returns-else-difference : goal.returns-else-difference
 unfolding of_bits round neg
-returns c = rw (abs_le c.args.difference, c.if-difference.false)
+returns-else-difference c = rw (abs_le c.args.difference, c.if-difference.false)
