@@ -4,10 +4,8 @@ use Rattle.std.specs.Prelude.{ℕ, cond, List, [], ◌∷◌, length, pos, ◌==
 use Rattle.std.specs.Float.{nan, binary64}
 use Rattle.std.specs.Float.Ieee.{div, of_int}
 use Rattle.error.specs.Names.{right_slice}
-use Rattle.error.specs.Numbers.{Outcome, completed, refused, refusal, whole}
+use Rattle.error.specs.Numbers.{Outcome, completed, refused, whole}
 use Rattle.ieee.specs.Sum.{sum_to, squared_difference}
-use Rattle.metrics.specs.declared.MeanError.{MeanError}
-use Rattle.metrics.specs.declared.MeanError.TheVariants.{Value, Refused}
 
 -- the squared differences of the first n elements, added in order
 abbrev pub squared_error : List Float → List Float → ℕ → Float
@@ -23,8 +21,3 @@ mse_outcome left right =
     cond (length right == length left)
     (cond (length left == 0) (refused 1 []) (completed (mse_of left right)))
     (refused 7 (whole right_slice ∷ []))
-
--- the answer by its number and values
-abbrev pub mean_error : MeanError → Outcome Float
-mean_error (Value x) = completed x
-mean_error (Refused r) = refusal r

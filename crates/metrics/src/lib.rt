@@ -2,29 +2,23 @@
 #![tactic(auto)]
 
 ghost use Rattle.std.specs.Prelude.{◌≡◌, length};
-ghost use Rattle.metrics.specs.Mse.{squared_error, mse_outcome, mean_error};
+ghost use Rattle.error.specs.Numbers.{outcome};
+ghost use Rattle.metrics.specs.Mse.{squared_error, mse_outcome};
 
-use error::{Refusal, names};
-
-// The answer of `mse`.
-#[derive(Clone, Copy)]
-pub enum MeanError {
-    Value(f64),
-    Refused(Refusal),
-}
+use error::{Refusal, Slice};
 
 // The mean squared error of two vectors of the same length. A NaN among the values gives a NaN.
-pub fn mse(left: &[f32], right: &[f32]) -> MeanError
-    ensures { mean_error result ≡ mse_outcome left.now right.now }
+pub fn mse(left: &[f32], right: &[f32]) -> Result<f64, Refusal>
+    ensures { outcome result ≡ mse_outcome left.now right.now }
 {
     let n = left.len();
     if right.len() != n {
-        return MeanError::Refused(Refusal::SliceLength(names::RIGHT_SLICE));
+        return Err(Refusal::SliceLength(Slice::Right));
     }
     if n == 0 {
-        return MeanError::Refused(Refusal::ZeroDimension);
+        return Err(Refusal::ZeroDimension);
     }
-    MeanError::Value(squared_error(left, right) / ieee::from_u64(n as u64))
+    Ok(squared_error(left, right) / ieee::from_u64(n as u64))
 }
 
 // The squared differences, added from +0.0 in order.
@@ -33,12 +27,9 @@ fn squared_error(left: &[f32], right: &[f32]) -> f64
     ensures { result ≡ squared_error left.now right.now (length left.now) }
 {
     let mut sum = 0.0;
-    let mut i = 0usize;
-    while i < left.len() {
-        let difference = std::num::f32_to_f64_with_nan(left[i])
-            - std::num::f32_to_f64_with_nan(right[i]);
+    for (x, y) in left.iter().zip(right) {
+        let difference = std::num::f32_to_f64_with_nan(*x) - std::num::f32_to_f64_with_nan(*y);
         sum = sum + difference * difference;
-        i += 1;
     }
     sum
 }

@@ -32,14 +32,6 @@ and_false true = refl
 and_false false = refl
 
 -- ---- finite and above zero
--- by two comparisons
-pub positive_is : (x : Float) → lt plus_zero x && lt x (inf false) ≡ above_zero x
-unfolding lt
-positive_is nan = refl
-positive_is (inf true) = refl
-positive_is (inf false) = refl
-positive_is (fin s m e) = and_true (lt plus_zero (fin s m e))
-
 -- v / c and a / w are one number, so both are above zero or neither is
 alike : (v c a w : ℕ) → 0 < c → 0 < w → v * c ≡ a * w → ltb 0 v ≡ ltb 0 a
 alike v c zero w C W e = ap (ltb 0) (eq_of_mul-eq-mul_right c C v 0 (e ∙ zero-mul w ∙ sym (zero-mul c)))

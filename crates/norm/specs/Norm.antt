@@ -4,14 +4,10 @@ use Rattle.std.specs.Prelude.{ℕ, ◌+◌, ◌*◌, Bool, not, ◌&&◌, cond, 
 use Rattle.std.specs.Float.{binary32}
 use Rattle.std.specs.Float.Ieee.{lt}
 use Rattle.std.specs.Float.Ieee.Scale.{finite}
-use Rattle.error.specs.Numbers.{Outcome, completed, refused, refusal}
+use Rattle.error.specs.Numbers.{Outcome, completed, refused}
 use Rattle.ieee.specs.Sum.{plus_zero}
 use Rattle.narrow.specs.Format.{unpacked}
 use Rattle.narrow.specs.Pack.{packed, narrow_to}
-use Rattle.norm.specs.declared.NormBits.{NormBits}
-use Rattle.norm.specs.declared.NormBits.TheVariants as bits-variants
-use Rattle.norm.specs.declared.NormValue.{NormValue}
-use Rattle.norm.specs.declared.NormValue.TheVariants as value-variants
 
 -- finite and above zero
 abbrev pub above_zero : Float → Bool
@@ -38,12 +34,3 @@ norm_value bytes =
     cond (not (eqb (length bytes) 2)) (refused 10 [])
     (cond (not (above_zero (unpacked 11 15 (pattern_of bytes)))) (refused 10 [])
     (completed (unpacked 11 15 (pattern_of bytes))))
-
--- the answers
-abbrev pub bits_of : NormBits → Outcome ℕ
-bits_of (bits-variants.Bits b) = completed b
-bits_of (bits-variants.Refused r) = refusal r
-
-abbrev pub value_of : NormValue → Outcome Float
-value_of (value-variants.Value x) = completed x
-value_of (value-variants.Refused r) = refusal r

@@ -2,67 +2,52 @@
 #![tactic(auto)]
 
 ghost use Rattle.std.specs.Prelude.{◌≡◌};
+ghost use Rattle.error.specs.Numbers.{outcome};
 ghost use Rattle.narrow.specs.Format.{unpacked};
-ghost use Rattle.norm.specs.Norm.{above_zero, norm_bits, norm_value, bits_of, value_of};
+ghost use Rattle.norm.specs.Norm.{above_zero, norm_bits, norm_value};
 
 use error::Refusal;
-
-// The answer of `encode_norm`: the pattern to write.
-#[derive(Clone, Copy)]
-pub enum NormBits {
-    Bits(u16),
-    Refused(Refusal),
-}
-
-// The answer of `decode_norm`: the value read.
-#[derive(Clone, Copy)]
-pub enum NormValue {
-    Value(f64),
-    Refused(Refusal),
-}
 
 // Whether a norm is finite and above zero; a NaN is not.
 fn is_positive(norm: f64) -> bool
     ensures { result ≡ above_zero norm }
 {
-    if 0.0 < norm {
-        norm < f64::from_bits(ieee::INFINITY)
-    } else {
-        false
-    }
+    ieee::is_finite(norm) && 0.0 < norm
 }
 
 // Whether a binary16 pattern is that of a finite value above zero: no sign, and between zero's and infinity's.
 fn is_norm(bits: u16) -> bool
     ensures { result ≡ above_zero (unpacked 11 15 bits) }
 {
-    if 0 < bits { bits < 0x7C00 } else { false }
+    0 < bits && bits < 0x7C00
 }
 
 // The binary16 pattern of a norm, rounded to binary32 first.
-pub fn encode_norm(norm: f64) -> NormBits
-    ensures { bits_of result ≡ norm_bits norm }
+#[tactic(auto, unfolding(crate::specs::Norm::norm_bits, crate::specs::Norm::half_of))]
+pub fn encode_norm(norm: f64) -> Result<u16, Refusal>
+    ensures { outcome result ≡ norm_bits norm }
 {
     if !is_positive(norm) {
-        return NormBits::Refused(Refusal::Norm);
+        return Err(Refusal::Norm);
     }
     let bits = narrow::f32_to_f16_bits(narrow::f64_to_f32(norm));
     if !is_norm(bits) {
-        return NormBits::Refused(Refusal::Norm);
+        return Err(Refusal::Norm);
     }
-    NormBits::Bits(bits)
+    Ok(bits)
 }
 
 // The norm that the two bytes of a payload stand for.
-pub fn decode_norm(payload: &[u8]) -> NormValue
-    ensures { value_of result ≡ norm_value payload.now }
+#[tactic(auto, unfolding(crate::specs::Norm::norm_value))]
+pub fn decode_norm(payload: &[u8]) -> Result<f64, Refusal>
+    ensures { outcome result ≡ norm_value payload.now }
 {
-    if payload.len() != 2 {
-        return NormValue::Refused(Refusal::Norm);
-    }
-    let bits = payload[0] as u16 + payload[1] as u16 * 256;
+    let [low, high] = payload else {
+        return Err(Refusal::Norm);
+    };
+    let bits = u16::from_le_bytes([*low, *high]);
     if !is_norm(bits) {
-        return NormValue::Refused(Refusal::Norm);
+        return Err(Refusal::Norm);
     }
-    NormValue::Value(narrow::f32_to_f64(narrow::f16_bits_to_f32(bits)))
+    Ok(narrow::f32_to_f64(narrow::f16_bits_to_f32(bits)))
 }

@@ -1,3 +1,2 @@
 pub mod Apply
-pub mod EightRows
-pub mod AddedRows
+pub mod Rows
