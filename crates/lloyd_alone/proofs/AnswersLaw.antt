@@ -3,26 +3,28 @@
 -- whether another has its distance. In particular the mean is finite: the Rust's refusal of a mean error that is not
 -- (NumericalFailure) can't come from it.
 -- Assumes nothing.
+use Rattle.std.specs.Prelude.{None}
 use mathlib.Core.Path.{◌≡◌, refl, ap, ◌∙◌, subst}
 use Prim.Native.Nat.{ℕ, ◌+◌, ◌*◌, ◌/◌, ◌^◌, ◌≤◌, ◌<◌}
 use native.Mathlib.Nat.{le_refl}
 use native.Mathlib.Omega.{arith}
-use mathlib.Core.Bool.{not}
+use mathlib.Core.Bool.{true, not}
 use mathlib.Core.List.{List, [], ◌∷◌}
 use lib.Dec.{T, lit≤, eqb}
 use lib.ListN.{length, get_or}
 use lib.Ieee.{Float, nan}
 use lib.Ieee.Scale.{finite}
-use borrow.Author.Tests.{not-false, eqb-true, eqb-false}
+use borrow.Author.Tests.{eq-eqb, not-false, eqb-true, eqb-false}
 use Rattle.ieee.specs.Bounds.{Upto}
 use Rattle.error.specs.Numbers.{completed, whole}
 use Rattle.error.proofs.Outcomes.{passed, completed_same}
 use Rattle.ieee.proofs.Order.{finite_number}
-use Rattle.slices.specs.declared.First.TheVariants.{Nowhere}
 use Rattle.slices.specs.Limit.{first_outside}
+use Rattle.lloyd_search.specs.declared.Choice.{Choice}
 use Rattle.lloyd_alone.specs.declared.Marked.{Marked}
 use Rattle.lloyd_search.specs.Distance.{distance, vector_of, row_of}
 use Rattle.lloyd_search.specs.Nearest.{another, tied_at, mean_error, Least}
+use Rattle.lloyd_search.specs.Choice.{chosen, mark_of}
 use Rattle.lloyd_search.specs.Shape.{codebook_shaped, samples_shaped}
 use Rattle.lloyd_search.specs.Finite.{FiniteNearest, FiniteMean}
 use Rattle.lloyd_alone.specs.Totals.{FiniteTotals}
@@ -32,6 +34,7 @@ use Rattle.lloyd_search.proofs.Parts.{row_place}
 use Rattle.lloyd_search.proofs.ShapeLaw.{Codebook, Samples, codebook_shape, samples_shape, some_sample}
 use Rattle.lloyd_search.proofs.LimitLaw.{all_within, passed_bounded}
 use Rattle.lloyd_search.proofs.FiniteLaw.{Bounded, finite_distance, nearest_least, finite_nearest, finite_mean}
+use Rattle.lloyd_search.proofs.TieLaw.{mark_means}
 use Rattle.lloyd_alone.proofs.TotalsLaw.{finite_totals}
 
 -- every row of a list that passes the check of magnitude is bounded
@@ -39,13 +42,25 @@ rows_bounded : (b n k : ℕ) (xs : List Float) → ((i : ℕ) → i < length xs 
 rows_bounded b n k xs h e i l j m = h (i * k + j) (row_place i n k j (length xs) l m e)
 
 -- so no distance of such a block to such codewords is a NaN
-pub no_nan : (n k : ℕ) (codewords block : List Float) → k ≤ 256 → length codewords ≡ n * k → length block ≡ k → first_outside search_limit block ≡ Nowhere → first_outside search_limit codewords ≡ Nowhere
+pub no_nan : (n k : ℕ) (codewords block : List Float) → k ≤ 256 → length codewords ≡ n * k → length block ≡ k → first_outside search_limit block ≡ None → first_outside search_limit codewords ≡ None
     → NoNan k n (row_of k codewords) (vector_of block)
 no_nan n k codewords block few shape long b c i l =
     finite_number _
     ((finite_distance 128 (lit≤ tt) k few (vector_of block) (row_of k codewords i) (λ j h. all_within 128 block b j (omega arith)) (rows_bounded 128 n k codewords (all_within 128 codewords c) shape i l)).partial_sums k (le_refl k))
 
 -- ---- nearest, called alone
+-- what a search answers once its checks have passed
+pub answered : (n : ℕ) (codewords block : List Float) (best : Choice) → codebook_shaped n (length block) (length codewords) ≡ true → first_outside search_limit block ≡ None → first_outside search_limit codewords ≡ None
+    → (NoNan (length block) n (row_of (length block) codewords) (vector_of block) → best ≡ chosen (length block) n (row_of (length block) codewords) (vector_of block))
+    → completed (record { found = best.found; tied = mark_of best }) ≡ nearest_alone n (length block) codewords block
+unfolding nearest_alone
+answered n codewords block best shaped p q e =
+    let k = length block in
+    let s = codebook_shape n k (length codewords) shaped in
+    let far : ℕ → Float = λ i. distance k (vector_of block) (row_of k codewords i) in
+    let is = e (no_nan n k codewords block s.coordinates_upto s.length_is refl p q) in
+    rw (shaped, eq-eqb k k refl, p, q, is, mark_means far n)
+
 pub record NearestAccepted (n k : ℕ) (codewords block : List Float) (f : Marked) : Type 0 where
   pub shape : Codebook n k (length codewords)
   pub block_bounded : Bounded 128 k (vector_of block)

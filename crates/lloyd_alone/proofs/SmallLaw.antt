@@ -1,5 +1,6 @@
 -- Where a block's values are at most 2 ^ 127 in size and its distances are at most 2 ^ 250, the codewords' values are
 -- at most 2 ^ 128: a NaN, an infinity or a larger value would show in a distance. Assumes nothing.
+use Rattle.std.specs.Prelude.{None}
 use mathlib.Core.Path.{◌≡◌, refl, sym, subst}
 use Prim.Native.Nat.{ℕ, zero, suc, ◌+◌, ◌-◌, ◌*◌, ◌/◌, ◌%◌, ◌^◌, ◌≤◌, ◌<◌}
 use native.Mathlib.Nat.{le_trans, le_of_eq, le_of_lt, lt_of_not-le, not-le_of_lt, lt_of_lt_of_le, le-add_right, le-add_left, mul-one, one-mul, mul_comm, mul_assoc, mul_left_comm, mul-mul-mul_comm, add-mul, mul-pos, mul-le-mul, mul-le-mul_right, le_of_mul-le-mul_right, zero-lt-suc, div-add-mod', div-lt_iff_lt-mul, mod-lt}
@@ -17,7 +18,6 @@ use Rattle.ieee.specs.Sum.{sum_to, squared_difference}
 use Rattle.ieee.proofs.Value.{holds_true, round_own}
 use Rattle.ieee.proofs.Bound.{round_below, round_not_negative, fraction_value, holds_fraction}
 use Rattle.ieee.proofs.Sign.{square_not_negative, add_not_negative}
-use Rattle.slices.specs.declared.First.TheVariants.{Nowhere}
 use Rattle.slices.specs.Limit.{first_outside}
 use Rattle.slices.proofs.FirstLaw.{below_suc}
 use Rattle.lloyd_alone.specs.Answers.{search_limit}
@@ -214,9 +214,9 @@ codewords_upto k n codewords x e g h i l =
     subst (λ (z : ℕ). Upto (get_or codewords z nan) (2 ^ 128)) (div-add-mod' i k) (vector_upto k x (row_of k codewords (i / k)) g (h (i / k) ((div-lt_iff_lt-mul K).1 m)) (i % k) (mod-lt i K))
 
 pub codewords_within : (k n : ℕ) (codewords block : List Float) → length codewords ≡ n * k → length block ≡ k
-    → first_outside (power 127) block ≡ Nowhere
+    → first_outside (power 127) block ≡ None
     → ((i : ℕ) → i < n → Upto (distance k (vector_of block) (row_of k codewords i)) (2 ^ 250))
-    → (first_outside search_limit block ≡ Nowhere) × (first_outside search_limit codewords ≡ Nowhere)
+    → (first_outside search_limit block ≡ None) × (first_outside search_limit codewords ≡ None)
 codewords_within k n codewords block e b g h = (
   wider 127 128 block (lit≤ tt) g,
   all_upto 128 codewords (codewords_upto k n codewords (vector_of block) e (λ j l. all_within 127 block g j (lt_of_lt_of_le l (le_of_eq (sym b)))) h),

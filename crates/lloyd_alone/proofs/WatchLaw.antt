@@ -5,28 +5,32 @@ use Prim.Native.Nat.{ℕ, zero, suc, ◌+◌, ◌*◌, ◌/◌, ◌%◌, ◌^◌
 use native.Mathlib.Nat.{add-zero, div-add-mod', div-lt_iff_lt-mul, mod-lt}
 use native.Mathlib.Omega.{arith}
 use native.Mathlib.Numerals.{add-one}
-use mathlib.Core.Bool.{not}
+use mathlib.Core.Bool.{false, not}
 use lib.Dec.{T, lit<}
-use lib.Ieee.{Float, binary64, add, lt, fits, is_nan}
+use mathlib.Core.List.{List, [], ◌∷◌}
+use lib.Ieee.{Float, inf, binary64, add, lt, fits, is_nan}
 use lib.Ieee.Fits.{add-fits}
 use Rattle.ieee.specs.Bounds.{Upto}
-use Rattle.ieee.specs.Sum.{sum_to}
+use Rattle.ieee.specs.Sum.{plus_zero, sum_to}
 use Rattle.ieee.proofs.Value.{holds_true}
 use Rattle.slices.proofs.FirstLaw.{below_suc}
 use Rattle.lloyd_search.specs.declared.Choice.{Choice}
-use Rattle.lloyd_search.specs.declared.Four.{Four}
 use Rattle.lloyd_alone.specs.declared.Watched.{Watched}
-use Rattle.lloyd_search.specs.Distance.{distance}
+use Rattle.lloyd_search.specs.Distance.{distance, vector_of}
 use Rattle.lloyd_search.specs.Nearest.{first_least}
-use Rattle.lloyd_search.specs.Choice.{last_least, passing, passing_four}
-use Rattle.lloyd_search.specs.Four.{Distances}
+use Rattle.lloyd_search.specs.Choice.{last_least, passing, passing_all}
+use Rattle.lloyd_search.specs.Four.{four_from}
 use Rattle.lloyd_alone.specs.Totals.{every_fourth, sum_of_distances}
-use Rattle.lloyd_alone.specs.Watch.{AllNear, Watches, unwatched, watching, passing_two}
+use Rattle.lloyd_alone.specs.Watch.{AllNear, NoNan, Watches, four_sums, watching, passing_two}
 use Rattle.lloyd_search.proofs.LimitLaw.{power}
-use Rattle.lloyd_search.proofs.Fours.{four_more}
+use Rattle.lloyd_search.proofs.Fours.{four_more, four_each}
 use Rattle.lloyd_search.proofs.FiniteLaw.{sum_to_fits, distance_fits}
 use Rattle.lloyd_alone.proofs.PairLaw.{two_in_order}
 use Rattle.lloyd_alone.proofs.SmallLaw.{NoMinus, add_no_minus, add_parts, sum_to_no_minus, sum_to_parts, lt_upto, distance_no_minus}
+
+-- what is kept before any codeword is passed
+abbrev pub unwatched : Watched
+unwatched = record { best = record { found = record { index = 0; distance = inf false }; last = 0 }; sums = plus_zero ∷ plus_zero ∷ plus_zero ∷ plus_zero ∷ [] }
 
 -- one more term of a sum of every fourth
 pub sum_more : (d : ℕ → Float) (r m i : ℕ) (sum x : Float) → sum ≡ every_fourth d r m → x ≡ d i → i ≡ m * 4 + r → add binary64 sum x ≡ every_fourth d r (m + 1)
@@ -91,39 +95,32 @@ module _ (k : ℕ) (book : ℕ → ℕ → Float) (x : ℕ → Float) where
   none_watched = record { best_is = λ fine. refl; sums_are = refl }
 
   -- four more codewords in pairs are four more in order
-  in_order : (i : ℕ) (f : Four) (best : Choice) → T (not (is_nan f.first)) → T (not (is_nan f.third)) → passing_two (passing_two best i f.first f.second) (i + 2) f.third f.fourth ≡ passing_four best i f
+  in_order : (i : ℕ) (f : ℕ → Float) (best : Choice) → T (not (is_nan (f 0))) → T (not (is_nan (f 2))) → passing_two (passing_two best i (f 0) (f 1)) (i + 2) (f 2) (f 3) ≡ passing_all best i f 4
   in_order i f best one three =
-      let two = passing (passing best i f.first) (i + 1) f.second in
-      ap (λ (c : Choice). passing_two c (i + 2) f.third f.fourth) (two_in_order best i f.first f.second one)
-      ∙ two_in_order two (i + 2) f.third f.fourth three
-      ∙ ap (λ (j : ℕ). passing (passing two (i + 2) f.third) j f.fourth) (omega arith)
+      let two = passing (passing best i (f 0)) (i + 1) (f 1) in
+      ap (λ (c : Choice). passing_two c (i + 2) (f 2) (f 3)) (two_in_order best i (f 0) (f 1) one)
+      ∙ two_in_order two (i + 2) (f 2) (f 3) three
+      ∙ rw (add-zero i) (ap (λ (j : ℕ). passing (passing two (i + 2) (f 2)) j (f 3)) (omega arith))
 
   -- four more codewords, which are the first of the fours that are left
-  pub four_watched : (i : ℕ) (f : Four) (w r : Watched) → i ≡ i / 4 * 4 → Distances k x (book i) (book (i + 1)) (book (i + 2)) (book (i + 3)) f → Watches k i book x w → r ≡ watching w i f
-      → Watches k (i + 4) book x r
-  four_watched i f w r whole d h e =
-      let m = i / 4 in
-      let next : m + 1 ≡ (i + 4) / 4 = omega arith in
-      let sum : (q : ℕ) (a y : Float) → a ≡ every_fourth far q m → y ≡ far (i + q) → add binary64 a y ≡ every_fourth far q ((i + 4) / 4) = λ q a y g z. sum_more far q m (i + q) a y g z (omega arith) ∙ ap (every_fourth far q) next in
-      let number : (y : Float) (j : ℕ) → y ≡ far j → T (not (is_nan (far j))) → T (not (is_nan y)) = λ y j g. subst (λ (z : Float). T (not (is_nan z))) (sym g) in
+  pub four_watched : (m : ℕ) (four : List Float) (w r : Watched) → four ≡ four_from k x book (m * 4) → Watches k m book x w → r ≡ watching w (m * 4) (vector_of four) → Watches k (m + 1) book x r
+  four_watched m four w r d h e =
+      let i = m * 4 in
+      let next : (m + 1) * 4 ≡ i + 4 = omega arith in
+      let each : (q : ℕ) → q < 4 → vector_of four q ≡ far (i + q) = λ q l. ap (λ (f : List Float). vector_of f q) d ∙ four_each k x book i q l in
+      let sum : (q : ℕ) → q < 4 → vector_of w.sums q ≡ every_fourth far q m → add binary64 (vector_of w.sums q) (vector_of four q) ≡ every_fourth far q (m + 1) = λ q l g. sum_more far q m (i + q) _ _ g (each q l) refl in
+      let number : (q : ℕ) → q < 4 → NoNan k (i + 4) book x → T (not (is_nan (vector_of four q))) = λ q l fine. subst (λ (z : Float). T (not (is_nan z))) (sym (each q l)) (fine (i + q) (omega arith)) in
+      let was : (q : ℕ) → vector_of w.sums q ≡ vector_of (four_sums k m book x) q = λ q. ap (λ (z : List Float). vector_of z q) h.sums_are in
       record {
-        best_is = λ fine.
-            four_more x book i k f w.best r.best d (h.best_is (λ j l. fine j (omega arith)))
-            (ap (λ (z : Watched). z.best) e ∙ in_order i f w.best (number f.first i d.to_first (fine i (omega arith))) (number f.third (i + 2) d.to_third (fine (i + 2) (omega arith))));
-        sums_are =
-            ap (λ (z : Watched). z.sums) e
-            ∙ rw (
-              sum 0 w.sums.first f.first (ap (λ (z : Four). z.first) h.sums_are) (d.to_first ∙ ap far (sym (add-zero i))),
-              sum 1 w.sums.second f.second (ap (λ (z : Four). z.second) h.sums_are) d.to_second,
-              sum 2 w.sums.third f.third (ap (λ (z : Four). z.third) h.sums_are) d.to_third,
-              sum 3 w.sums.fourth f.fourth (ap (λ (z : Four). z.fourth) h.sums_are) d.to_fourth,
-            );
+        best_is =
+            rw next (λ (fine : NoNan k (i + 4) book x). four_more k x book i w.best four r.best (h.best_is (λ j l. fine j (omega arith))) d
+            (ap (λ (z : Watched). z.best) e ∙ in_order i (vector_of four) w.best (number 0 (lit< tt) fine) (number 2 (lit< tt) fine)));
+        sums_are = ap (λ (z : Watched). z.sums) e ∙ rw (sum 0 (lit< tt) (was 0), sum 1 (lit< tt) (was 1), sum 2 (lit< tt) (was 2), sum 3 (lit< tt) (was 3));
       }
 
   -- a small sum of the sums shows that all of them are near
-  pub fours_near : (n : ℕ) → n ≡ n / 4 * 4 → T (lt (sum_of_distances far (n / 4)) (power 250)) → AllNear k n book x
-  fours_near n whole h i l =
-      low_each far no_minus fit (n / 4) (total_low far no_minus fit (n / 4) (lt_upto 250 (sum_of_distances far (n / 4)) (total_no_minus far no_minus fit (n / 4)) h)) i (subst (λ (z : ℕ). i < z) whole l)
+  pub fours_near : (m : ℕ) → T (lt (sum_of_distances far m) (power 250)) → AllNear k (m * 4) book x
+  fours_near m h = low_each far no_minus fit m (total_low far no_minus fit m (lt_upto 250 (sum_of_distances far m) (total_no_minus far no_minus fit m) h))
 
   -- one more codeword
   pub one_near : (i : ℕ) (y : Float) → AllNear k i book x → y ≡ far i → T (lt y (power 250)) → AllNear k (i + 1) book x

@@ -2,13 +2,9 @@
 use Rattle.std.specs.Prelude.{ℕ, ◌/◌, false, not, cond, List, [], ◌∷◌, eqb, pos, length, Float}
 use Rattle.std.specs.Float.{fin}
 use Rattle.error.specs.Names.{codewords_slice, input_slice, samples_slice}
-use Rattle.error.specs.Numbers.{Outcome, completed, refused, refusal, whole}
+use Rattle.error.specs.Numbers.{Outcome, completed, refused, whole}
 use Rattle.slices.specs.Limit.{first_outside, bounded}
 use Rattle.lloyd_alone.specs.declared.Marked.{Marked}
-use Rattle.lloyd_alone.specs.declared.NearestCodeword.{NearestCodeword}
-use Rattle.lloyd_alone.specs.declared.NearestCodeword.TheVariants.{Nearest, Refused}
-use Rattle.lloyd_alone.specs.declared.CodebookError.{CodebookError}
-use Rattle.lloyd_alone.specs.declared.CodebookError.TheVariants as error-variants
 use Rattle.lloyd_search.specs.Distance.{vector_of, row_of}
 use Rattle.lloyd_search.specs.Nearest.{nearest, tied, mean_error}
 use Rattle.lloyd_search.specs.Shape.{codebook_shaped, samples_shaped}
@@ -37,12 +33,3 @@ mean_error_alone n k codewords samples =
     (bounded samples_slice (first_outside search_limit samples)
     (bounded codewords_slice (first_outside search_limit codewords)
     (completed (mean_error k n (row_of k codewords) (row_of k samples) (length samples / k)))))))
-
--- the answers
-abbrev pub nearest_of : NearestCodeword → Outcome Marked
-nearest_of (Nearest m) = completed m
-nearest_of (Refused r) = refusal r
-
-abbrev pub codebook_error_of : CodebookError → Outcome Float
-codebook_error_of (error-variants.Mean x) = completed x
-codebook_error_of (error-variants.Refused r) = refusal r

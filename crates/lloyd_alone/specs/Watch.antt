@@ -1,17 +1,14 @@
 -- The search called alone: what it keeps of the codewords that it has passed, two of which it compares with each other
 -- first, and what it reads off its distances: whether they are at most 2 ^ 250. Definitions only.
-use Rattle.std.specs.Prelude.{◌≡◌, ℕ, ◌+◌, ◌/◌, ◌^◌, ◌<◌, true, false, not, cond, List, pos, T, Float}
-use Rattle.std.specs.Float.{inf, fin, binary64}
+use Rattle.std.specs.Prelude.{◌≡◌, ℕ, ◌+◌, ◌*◌, ◌^◌, ◌<◌, true, false, not, cond, List, [], ◌∷◌, pos, T, Float, None}
+use Rattle.std.specs.Float.{fin, binary64}
 use Rattle.std.specs.Float.Ieee.{add, lt, le, is_nan}
 use Rattle.ieee.specs.Bounds.{Upto}
-use Rattle.ieee.specs.Sum.{plus_zero}
-use Rattle.slices.specs.declared.First.TheVariants.{Nowhere}
 use Rattle.slices.specs.Limit.{first_outside}
 use Rattle.lloyd_search.specs.declared.Choice.{Choice}
-use Rattle.lloyd_search.specs.declared.Four.{Four}
 use Rattle.lloyd_alone.specs.declared.Watched.{Watched}
 use Rattle.lloyd_alone.specs.declared.Seen.{Seen}
-use Rattle.lloyd_search.specs.Distance.{distance}
+use Rattle.lloyd_search.specs.Distance.{distance, vector_of}
 use Rattle.lloyd_search.specs.Nearest.{pick}
 use Rattle.lloyd_search.specs.Choice.{chosen, passing}
 use Rattle.lloyd_alone.specs.Totals.{every_fourth}
@@ -28,13 +25,6 @@ AllNear k n book x = (i : ℕ) → i < n → Upto (distance k x (book i)) (2 ^ 2
 abbrev pub NoNan : ℕ → ℕ → (ℕ → ℕ → Float) → (ℕ → Float) → Type 0
 NoNan k n book x = (i : ℕ) → i < n → T (not (is_nan (distance k x (book i))))
 
--- what a search keeps before any codeword is passed
-abbrev pub unwatched : Watched
-unwatched = record {
-  best = record { found = record { index = 0; distance = inf false }; last = 0 };
-  sums = record { first = plus_zero; second = plus_zero; third = plus_zero; fourth = plus_zero };
-}
-
 -- the choice of two, the second of which was made among later codewords
 abbrev pub joined : Choice → Choice → Choice
 joined c d = record {
@@ -46,28 +36,29 @@ joined c d = record {
 abbrev pub passing_two : Choice → ℕ → Float → Float → Choice
 passing_two c i x y = joined c (passing (record { found = record { index = i; distance = x }; last = i }) (i + 1) y)
 
+-- four sums with a term more each
+abbrev pub four_added : List Float → (ℕ → Float) → List Float
+four_added sums far =
+    let sum : ℕ → Float = λ r. add binary64 (vector_of sums r) (far r) in
+    sum 0 ∷ sum 1 ∷ sum 2 ∷ sum 3 ∷ []
+
 -- what is kept after four codewords more
-abbrev pub watching : Watched → ℕ → Four → Watched
-watching w i f = record {
-  best = passing_two (passing_two w.best i f.first f.second) (i + 2) f.third f.fourth;
-  sums = record {
-    first = add binary64 w.sums.first f.first;
-    second = add binary64 w.sums.second f.second;
-    third = add binary64 w.sums.third f.third;
-    fourth = add binary64 w.sums.fourth f.fourth;
-  };
+abbrev pub watching : Watched → ℕ → (ℕ → Float) → Watched
+watching w i far = record {
+  best = passing_two (passing_two w.best i (far 0) (far 1)) (i + 2) (far 2) (far 3);
+  sums = four_added w.sums far;
 }
 
--- the sums of every fourth of n distances, which are whole fours
-abbrev pub four_sums : ℕ → ℕ → (ℕ → ℕ → Float) → (ℕ → Float) → Four
-four_sums k n book x =
-    let sum : ℕ → Float = λ r. every_fourth (λ i. distance k x (book i)) r (n / 4) in
-    record { first = sum 0; second = sum 1; third = sum 2; fourth = sum 3 }
+-- the sums of every fourth of so many fours of distances
+abbrev pub four_sums : ℕ → ℕ → (ℕ → ℕ → Float) → (ℕ → Float) → List Float
+four_sums k m book x =
+    let sum : ℕ → Float = λ r. every_fourth (λ i. distance k x (book i)) r m in
+    sum 0 ∷ sum 1 ∷ sum 2 ∷ sum 3 ∷ []
 
--- what is kept of the first n codewords, which are whole fours
-pub record Watches (k n : ℕ) (book : ℕ → ℕ → Float) (x : ℕ → Float) (r : Watched) : Type 0 where
-  pub best_is : NoNan k n book x → r.best ≡ chosen k n book x
-  pub sums_are : r.sums ≡ four_sums k n book x
+-- what is kept of so many fours of codewords
+pub record Watches (k m : ℕ) (book : ℕ → ℕ → Float) (x : ℕ → Float) (r : Watched) : Type 0 where
+  pub best_is : NoNan k (m * 4) book x → r.best ≡ chosen k (m * 4) book x
+  pub sums_are : r.sums ≡ four_sums k m book x
 
 -- the choice among n codewords, and whether they are known to be near
 pub record Sees (k n : ℕ) (book : ℕ → ℕ → Float) (x : ℕ → Float) (r : Seen) : Type 0 where
@@ -77,4 +68,4 @@ pub record Sees (k n : ℕ) (book : ℕ → ℕ → Float) (x : ℕ → Float) (
 -- near distances to a block of small values
 pub record Small (r : Seen) (block : List Float) : Type 0 where
   pub all_near : r.near ≡ true
-  pub block_small : first_outside small_limit block ≡ Nowhere
+  pub block_small : first_outside small_limit block ≡ None

@@ -1,37 +1,25 @@
 // Nearest and mean error of lloyd.rs, called alone.
 #![tactic(auto)]
 
-ghost use Rattle.std.specs.Prelude.{◌≡◌, ◌<◌, ◌≤◌, ◌+◌, ◌*◌, ◌/◌, ◌^◌, true, length};
-ghost use Rattle.error.specs.Numbers.{completed};
+ghost use Rattle.std.specs.Prelude.{◌≡◌, ◌<◌, ◌≤◌, ◌+◌, ◌*◌, ◌^◌, true, length};
+ghost use Rattle.error.specs.Names.{slice_number};
+ghost use Rattle.error.specs.Numbers.{completed, outcome};
+ghost use Rattle.slices.specs.Limit.{first_outside, bounded};
 ghost use Rattle.lloyd_search.specs.Distance.{distance, vector_of, row_of};
 ghost use Rattle.lloyd_search.specs.Choice.{mark_of};
-ghost use Rattle.lloyd_search.specs.Four.{Distances};
-ghost use Rattle.lloyd_alone.specs.Watch.{unwatched, joined, passing_two, watching, Watches, Sees, Small};
-ghost use Rattle.lloyd_alone.specs.Answers.{nearest_alone, mean_error_alone, nearest_of, codebook_error_of};
+ghost use Rattle.lloyd_search.specs.Four.{four_from};
+ghost use Rattle.lloyd_alone.specs.Watch.{joined, passing_two, watching, Watches, Sees, Small};
+ghost use Rattle.lloyd_alone.specs.Answers.{search_limit, nearest_alone, mean_error_alone};
 
-use error::{Refusal, names};
-use lloyd_search::{Choice, Found, Four};
-use slices::First;
+use error::{Refusal, Slice};
+use lloyd_search::{Choice, Found, NONE_PASSED};
 
 // The codeword found, and whether another has the same distance: the choice was a toss.
+// Kept: a flag beside a value that is there either way.
 #[derive(Clone, Copy)]
 pub struct Marked {
     pub found: Found,
     pub tied: bool,
-}
-
-// The answer of the search called alone.
-#[derive(Clone, Copy)]
-pub enum NearestCodeword {
-    Nearest(Marked),
-    Refused(Refusal),
-}
-
-// The answer of the mean error called alone.
-#[derive(Clone, Copy)]
-pub enum CodebookError {
-    Mean(f64),
-    Refused(Refusal),
 }
 
 // The largest magnitude that the search takes: 2 ^ 128.
@@ -48,27 +36,14 @@ const SMALL_LIMIT: f64 = 170141183460469231731687303715884105728.0;
 #[derive(Clone, Copy)]
 struct Watched {
     best: Choice,
-    sums: Four,
+    sums: [f64; 4],
 }
 
 // Before any codeword is passed.
-fn nothing_watched() -> Watched
-    ensures { result ≡ unwatched }
-{
-    let found = Found {
-        index: 0,
-        distance: f64::from_bits(ieee::INFINITY),
-    };
-    Watched {
-        best: Choice { found, last: 0 },
-        sums: Four {
-            first: 0.0,
-            second: 0.0,
-            third: 0.0,
-            fourth: 0.0,
-        },
-    }
-}
+const UNWATCHED: Watched = Watched {
+    best: NONE_PASSED,
+    sums: [0.0; 4],
+};
 
 // The choice of two, the second of which was made among later codewords.
 fn choose(before: Choice, later: Choice) -> Choice
@@ -107,43 +82,44 @@ fn nearer_two(best: Choice, index: usize, first: f64, second: f64) -> Choice
 }
 
 // Four codewords more, the first of which has this number.
-fn watch(before: Watched, index: usize, four: Four) -> Watched
+fn watch(before: Watched, index: usize, four: [f64; 4]) -> Watched
     requires { index + 3 < 2 ^ 64 }
-    ensures { result ≡ watching before index four }
+    ensures { result ≡ watching before index (vector_of four) }
 {
-    let best = before.best;
+    let two = nearer_two(before.best, index, four[0], four[1]);
+    let best = nearer_two(two, index + 2, four[2], four[3]);
     let sums = before.sums;
-    let two = nearer_two(best, index, four.first, four.second);
     Watched {
-        best: nearer_two(two, index + 2, four.third, four.fourth),
-        sums: Four {
-            first: sums.first + four.first,
-            second: sums.second + four.second,
-            third: sums.third + four.third,
-            fourth: sums.fourth + four.fourth,
-        },
+        best,
+        sums: [
+            sums[0] + four[0],
+            sums[1] + four[1],
+            sums[2] + four[2],
+            sums[3] + four[3],
+        ],
     }
 }
 
-// The first `count` codewords, which are whole fours. The next four are measured before those at hand are compared.
-fn watch_rows(codewords: &[f64], count: usize, block: &[f64]) -> Watched
-    requires { (count ≡ count / 4 * 4) × (count * length block.now ≤ length codewords.now) }
-    ensures { Watches (length block.now) count
+// The first fours of codewords, so many of them. The next four are measured before those at hand are compared.
+fn watch_rows(codewords: &[f64], fours: usize, block: &[f64]) -> Watched
+    requires within { fours * 4 * length block.now ≤ length codewords.now }
+    requires countable { fours * 4 < 2 ^ 64 }
+    ensures { Watches (length block.now) fours
         (row_of (length block.now) codewords.now) (vector_of block.now) result }
 {
-    let mut before = nothing_watched();
-    if count == 0 {
+    let mut before = UNWATCHED;
+    if fours == 0 {
         return before;
     }
+    let last = fours - 1;
     let mut four = lloyd_search::distances_from(codewords, 0, block);
-    let mut i = 0usize;
-    while i + 4 < count {
-        let next = lloyd_search::distances_from(codewords, i + 4, block);
-        before = watch(before, i, four);
+    for turn in 0..last {
+        let index = turn * 4;
+        let next = lloyd_search::distances_from(codewords, index + 4, block);
+        before = watch(before, index, four);
         four = next;
-        i += 4usize;
     }
-    watch(before, i, four)
+    watch(before, last * 4, four)
 }
 
 // The squared distance of a block of four values to the codeword of this number: the sum without its loop.
@@ -160,52 +136,49 @@ fn quad_distance(codewords: &[f64], index: usize, block: &[f64]) -> f64
 }
 
 // The squared distances of a block of four values to four codewords, the first of which has this number.
-fn quad_distances(codewords: &[f64], index: usize, block: &[f64]) -> Four
+fn quad_distances(codewords: &[f64], index: usize, block: &[f64]) -> [f64; 4]
     requires { (length block.now ≡ 4) × ((index + 4) * 4 ≤ length codewords.now) }
-    ensures { let row = row_of 4 codewords.now in Distances 4 (vector_of block.now)
-        (row index) (row (index + 1)) (row (index + 2)) (row (index + 3)) result }
+    ensures { result ≡ four_from 4 (vector_of block.now) (row_of 4 codewords.now) index }
 {
-    let first = quad_distance(codewords, index, block);
-    let second = quad_distance(codewords, index + 1, block);
-    let third = quad_distance(codewords, index + 2, block);
-    let fourth = quad_distance(codewords, index + 3, block);
-    Four {
-        first,
-        second,
-        third,
-        fourth,
-    }
+    [
+        quad_distance(codewords, index, block),
+        quad_distance(codewords, index + 1, block),
+        quad_distance(codewords, index + 2, block),
+        quad_distance(codewords, index + 3, block),
+    ]
 }
 
 // `watch_rows` for a block of four values, which stay at hand from the first codeword to the last.
-fn watch_quads(codewords: &[f64], count: usize, block: &[f64]) -> Watched
-    requires { (length block.now ≡ 4) × (count ≡ count / 4 * 4) × (count * 4 ≤ length codewords.now) }
-    ensures { Watches 4 count (row_of 4 codewords.now) (vector_of block.now) result }
+fn watch_quads(codewords: &[f64], fours: usize, block: &[f64]) -> Watched
+    requires long { length block.now ≡ 4 }
+    requires within { fours * 4 * 4 ≤ length codewords.now }
+    requires countable { fours * 4 < 2 ^ 64 }
+    ensures { Watches 4 fours (row_of 4 codewords.now) (vector_of block.now) result }
 {
-    let mut before = nothing_watched();
-    let mut i = 0usize;
-    while i < count {
-        let four = quad_distances(codewords, i, block);
-        before = watch(before, i, four);
-        i += 4usize;
+    let mut before = UNWATCHED;
+    for turn in 0..fours {
+        let index = turn * 4;
+        before = watch(before, index, quad_distances(codewords, index, block));
     }
     before
 }
 
-// The first `count` codewords, which are whole fours.
-fn watch_fours(codewords: &[f64], count: usize, block: &[f64]) -> Watched
-    requires { (count ≡ count / 4 * 4) × (count * length block.now ≤ length codewords.now) }
-    ensures { Watches (length block.now) count
+// The first fours of codewords, so many of them.
+fn watch_fours(codewords: &[f64], fours: usize, block: &[f64]) -> Watched
+    requires within { fours * 4 * length block.now ≤ length codewords.now }
+    requires countable { fours * 4 < 2 ^ 64 }
+    ensures { Watches (length block.now) fours
         (row_of (length block.now) codewords.now) (vector_of block.now) result }
 {
     if block.len() == 4 {
-        watch_quads(codewords, count, block)
+        watch_quads(codewords, fours, block)
     } else {
-        watch_rows(codewords, count, block)
+        watch_rows(codewords, fours, block)
     }
 }
 
 // What a search has seen: its choice, and whether every distance is known to be near, which is at most NEAR_LIMIT.
+// Kept: a flag beside a value that is there either way.
 #[derive(Clone, Copy)]
 struct Seen {
     best: Choice,
@@ -219,21 +192,15 @@ fn search_near(codewords: &[f64], n: usize, block: &[f64]) -> Seen
         (row_of (length block.now) codewords.now) (vector_of block.now) result }
 {
     let k = block.len();
-    let mut i = n / 4 * 4;
-    let watched = watch_fours(codewords, i, block);
+    let watched = watch_fours(codewords, n / 4, block);
     let mut best = watched.best;
     let sums = watched.sums;
-    let mut near = (sums.first + sums.second) + (sums.third + sums.fourth) < NEAR_LIMIT;
-    let mut at = i * k;
-    while i < n {
-        let end = at + k;
-        let distance = lloyd_search::squared_distance(block, &codewords[at..end]);
-        if !(distance < NEAR_LIMIT) {
-            near = false;
-        }
+    let mut near = (sums[0] + sums[1]) + (sums[2] + sums[3]) < NEAR_LIMIT;
+    for i in n / 4 * 4..n {
+        let at = i * k;
+        let distance = lloyd_search::squared_distance(block, &codewords[at..at + k]);
+        near = near & (distance < NEAR_LIMIT);
         best = lloyd_search::nearer(best, i, distance);
-        at = end;
-        i += 1usize;
     }
     Seen { best, near }
 }
@@ -243,95 +210,82 @@ fn search_near(codewords: &[f64], n: usize, block: &[f64]) -> Seen
 fn small_distances(seen: Seen, block: &[f64]) -> bool
     ensures { result ≡ true → Small seen block.now }
 {
-    let bad = slices::first_outside(block, SMALL_LIMIT);
-    match bad {
-        First::Nowhere => seen.near,
-        First::At(_) => false,
-    }
+    seen.near && slices::first_outside(block, SMALL_LIMIT).is_none()
 }
 
 // The codeword that was chosen, marked.
-fn with_mark(choice: Choice) -> NearestCodeword
-    ensures { nearest_of result ≡ completed (record { found = choice.found; tied = mark_of choice }) }
+fn with_mark(choice: Choice) -> Marked
+    ensures { result ≡ record { found = choice.found; tied = mark_of choice } }
 {
-    let found = choice.found;
     let tied = lloyd_search::is_tied(choice);
-    NearestCodeword::Nearest(Marked { found, tied })
+    Marked {
+        found: choice.found,
+        tied,
+    }
+}
+
+// Whether all values of a slice are within SEARCH_LIMIT.
+fn check_bounded(values: &[f64], slice: Slice) -> Result<(), Refusal>
+    ensures { outcome result ≡ bounded (slice_number slice) (first_outside search_limit values.now) (completed tt) }
+{
+    match slices::first_outside(values, SEARCH_LIMIT) {
+        None => Ok(()),
+        Some(place) => Err(Refusal::OutOfBounds {
+            slice,
+            place: place as u64,
+        }),
+    }
 }
 
 // The codeword nearest to a block, with its distance, the first of equals; and whether another has the same distance.
 // Where the distances are small, they spare the scan of all codewords.
+#[tactic(auto, unfolding(crate::specs::Answers::nearest_alone))]
 pub fn nearest_index(
     codewords: &[f64],
     codebook_size: u64,
     block_dim: u64,
     block: &[f64],
-) -> NearestCodeword
-    ensures { nearest_of result
+) -> Result<Marked, Refusal>
+    ensures { outcome result
         ≡ nearest_alone codebook_size block_dim codewords.now block.now }
 {
     if !lloyd_search::codebook_shaped(codebook_size, block_dim, codewords.len()) {
-        return NearestCodeword::Refused(Refusal::SliceLength(names::CODEWORDS_SLICE));
+        return Err(Refusal::SliceLength(Slice::Codewords));
     }
     if block.len() as u64 != block_dim {
-        return NearestCodeword::Refused(Refusal::SliceLength(names::INPUT_SLICE));
+        return Err(Refusal::SliceLength(Slice::Input));
     }
     let seen = search_near(codewords, codebook_size as usize, block);
-    let best = seen.best;
-    if small_distances(seen, block) {
-        return with_mark(best);
+    if !small_distances(seen, block) {
+        check_bounded(block, Slice::Input)?;
+        check_bounded(codewords, Slice::Codewords)?;
     }
-    let bad = slices::first_outside(block, SEARCH_LIMIT);
-    if let First::At(place) = bad {
-        return NearestCodeword::Refused(Refusal::OutOfBounds {
-            slice: names::INPUT_SLICE,
-            place: place as u64,
-        });
-    }
-    let bad = slices::first_outside(codewords, SEARCH_LIMIT);
-    if let First::At(place) = bad {
-        return NearestCodeword::Refused(Refusal::OutOfBounds {
-            slice: names::CODEWORDS_SLICE,
-            place: place as u64,
-        });
-    }
-    with_mark(best)
+    Ok(with_mark(seen.best))
 }
 
 // The mean of the samples' distances to their nearest codewords.
+#[tactic(auto, unfolding(crate::specs::Answers::mean_error_alone))]
 pub fn mse_for_codebook(
     codewords: &[f64],
     codebook_size: u64,
     block_dim: u64,
     samples: &[f64],
-) -> CodebookError
-    ensures { codebook_error_of result
+) -> Result<f64, Refusal>
+    ensures { outcome result
         ≡ mean_error_alone codebook_size block_dim codewords.now samples.now }
 {
     if !lloyd_search::codebook_shaped(codebook_size, block_dim, codewords.len()) {
-        return CodebookError::Refused(Refusal::SliceLength(names::CODEWORDS_SLICE));
+        return Err(Refusal::SliceLength(Slice::Codewords));
     }
     if !lloyd_search::samples_shaped(block_dim, samples.len()) {
-        return CodebookError::Refused(Refusal::SliceLength(names::SAMPLES_SLICE));
+        return Err(Refusal::SliceLength(Slice::Samples));
     }
     if samples.len() == 0 {
-        return CodebookError::Refused(Refusal::ZeroDimension);
+        return Err(Refusal::ZeroDimension);
     }
-    let bad = slices::first_outside(samples, SEARCH_LIMIT);
-    if let First::At(place) = bad {
-        return CodebookError::Refused(Refusal::OutOfBounds {
-            slice: names::SAMPLES_SLICE,
-            place: place as u64,
-        });
-    }
-    let bad = slices::first_outside(codewords, SEARCH_LIMIT);
-    if let First::At(place) = bad {
-        return CodebookError::Refused(Refusal::OutOfBounds {
-            slice: names::CODEWORDS_SLICE,
-            place: place as u64,
-        });
-    }
-    CodebookError::Mean(lloyd_search::mean_error(
+    check_bounded(samples, Slice::Samples)?;
+    check_bounded(codewords, Slice::Codewords)?;
+    Ok(lloyd_search::mean_error(
         codewords,
         codebook_size as usize,
         block_dim as usize,

@@ -1,4 +1,5 @@
 pub mod Parts
+pub mod Chunks
 pub mod ShapeLaw
 pub mod NearestLaw
 pub mod TieLaw
@@ -6,3 +7,5 @@ pub mod LimitLaw
 pub mod WithinLaw
 pub mod FiniteLaw
 pub mod Fours
+pub mod Reading
+mod WidenLaw

@@ -1,5 +1,6 @@
 -- What the check of magnitude lets pass, for the limit 2 ^ b, is at most
 -- 2 ^ b in size; and a completed call has passed it. Assumes nothing.
+use Rattle.std.specs.Prelude.{Option, None, Some}
 use mathlib.Core.Path.{◌≡◌, refl, sym, subst}
 use Prim.Native.Nat.{ℕ, ◌*◌, ◌^◌, ◌≤◌, ◌<◌}
 use native.Mathlib.Nat.{le_of_lt, le_of_eq, one-mul}
@@ -15,8 +16,6 @@ use Rattle.error.specs.Numbers.{Outcome, completed, whole}
 use Rattle.error.proofs.Outcomes.{never}
 use Rattle.ieee.specs.Bounds.{Upto}
 use Rattle.ieee.proofs.Value.{holds_true}
-use Rattle.slices.specs.declared.First.{First}
-use Rattle.slices.specs.declared.First.TheVariants.{Nowhere, At}
 use Rattle.slices.specs.Limit.{within, first_outside, bounded}
 use Rattle.slices.proofs.FirstLaw.{none_before}
 
@@ -55,11 +54,11 @@ within_upto b x h =
     passed b x (and_l p q (holds_true h)) (and_r p q (holds_true h))
 
 -- no place outside: every value is within
-pub all_within : (b : ℕ) (xs : List Float) → first_outside (power b) xs ≡ Nowhere → (i : ℕ) → i < length xs → Upto (get_or xs i nan) (2 ^ b)
+pub all_within : (b : ℕ) (xs : List Float) → first_outside (power b) xs ≡ None → (i : ℕ) → i < length xs → Upto (get_or xs i nan) (2 ^ b)
 all_within b xs h i l = within_upto b (get_or xs i nan) (not-false _ (none_before (λ j. not (within (power b) (get_or xs j nan))) (length xs) h i l))
 
 -- a completed call has passed the check
-pub passed_bounded : {A : Type 0} (slice : ℕ) (f : First) (rest : Outcome A) (r : A) → bounded slice f rest ≡ completed r
-    → (f ≡ Nowhere) × (rest ≡ completed r)
-passed_bounded slice Nowhere rest r e = (refl, e)
-passed_bounded slice (At place) rest r e = absurd (never 18 (whole slice ∷ whole place ∷ []) r e)
+pub passed_bounded : {A : Type 0} (slice : ℕ) (f : Option ℕ) (rest : Outcome A) (r : A) → bounded slice f rest ≡ completed r
+    → (f ≡ None) × (rest ≡ completed r)
+passed_bounded slice None rest r e = (refl, e)
+passed_bounded slice (Some place) rest r e = absurd (never 18 (whole slice ∷ whole place ∷ []) r e)

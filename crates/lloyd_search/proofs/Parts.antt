@@ -1,5 +1,5 @@
 -- A row of a list, handed over as a part of a slice; distance and nearest see coordinates only. Assumes nothing.
-use mathlib.Core.Path.{◌≡◌, refl, ap, ◌∙◌}
+use mathlib.Core.Path.{◌≡◌, refl, sym, ap, ◌∙◌, subst}
 use Prim.Native.Nat.{ℕ, zero, suc, ◌+◌, ◌-◌, ◌*◌, ◌≤◌, ◌<◌}
 use native.Mathlib.Nat.{add-mul, suc-mul, mul-le-mul_right, le_step, lt-suc_self}
 use native.Mathlib.Omega.{arith}
@@ -8,7 +8,7 @@ use lib.ListN.{length, get_or, take, drop, length-take, length-drop}
 use lib.Seq.{get_or-take, get_or-drop}
 use lib.Ieee.{Float, nan}
 use Rattle.ieee.proofs.Bound.{sum_to_ext}
-use Rattle.lloyd_search.specs.Distance.{distance, vector_of, row_of}
+use Rattle.lloyd_search.specs.Distance.{distance, vector_of, row_of, vector_as, row_as, Widens}
 use Rattle.ieee.specs.Sum.{squared_difference}
 use Rattle.lloyd_search.specs.Nearest.{first_least, nearest}
 use Rattle.lloyd_search.specs.Choice.{last_least, chosen}
@@ -34,13 +34,24 @@ later_row i m k at p a e = omega (arith, add-mul i m k)
 cut : (at k : ℕ) → at + k - at ≡ k
 cut at k = omega arith
 
-module _ (xs : List Float) (i k at : ℕ) (is : at ≡ i * k) where
+module _ {A : Type 0} (xs : List A) (i k at : ℕ) (is : at ≡ i * k) where
   pub part_length : at + k ≤ length xs → length (take (at + k - at) (drop at xs)) ≡ k
   part_length h = simp (length-take, length-drop) (omega arith)
 
   -- the coordinates of the part are those of the row
-  pub part_row : (j : ℕ) → j < k → vector_of (take (at + k - at) (drop at xs)) j ≡ row_of k xs i j
-  part_row j h = rw (cut at k) (get_or-take k (drop at xs) j nan h ∙ get_or-drop at xs j nan ∙ ap (λ (z : ℕ). get_or xs (z + j) nan) is)
+  pub part_row_as : (value : A → Float) (missing : A) (j : ℕ) → j < k → vector_as value missing (take (at + k - at) (drop at xs)) j ≡ row_as value missing k xs i j
+  part_row_as value missing j h = rw (cut at k) (ap value (get_or-take k (drop at xs) j missing h ∙ get_or-drop at xs j missing ∙ ap (λ (z : ℕ). get_or xs (z + j) missing) is))
+
+  -- and those that widen are those of the list
+  pub part_widens : (widens : A → Type 0) (missing : A) → at + k ≤ length xs → Widens widens missing xs → Widens widens missing (take (at + k - at) (drop at xs))
+  part_widens widens missing h f j l =
+      let e = part_length h in
+      let l' : j < at + k - at = omega (arith, l, e) in
+      subst widens (sym (get_or-take (at + k - at) (drop at xs) j missing l' ∙ get_or-drop at xs j missing)) (f (at + j) (omega arith))
+
+-- the same of floats
+pub part_row : (xs : List Float) (i k at : ℕ) → at ≡ i * k → (j : ℕ) → j < k → vector_of (take (at + k - at) (drop at xs)) j ≡ row_of k xs i j
+part_row xs i k at is = part_row_as xs i k at is (λ (x : Float). x) nan
 
 -- the distance sees coordinates only
 pub distance_ext : (k : ℕ) (a b c d : ℕ → Float) → ((j : ℕ) → j < k → a j ≡ c j) → ((j : ℕ) → j < k → b j ≡ d j) → distance k a b ≡ distance k c d
@@ -49,6 +60,10 @@ distance_ext k a b c d h g = sum_to_ext (λ j. squared_difference (a j) (b j)) (
 -- the distance to a part is that to the row
 pub part_distance : (x : ℕ → Float) (xs : List Float) (i k at : ℕ) → at ≡ i * k → distance k x (vector_of (take (at + k - at) (drop at xs))) ≡ distance k x (row_of k xs i)
 part_distance x xs i k at is = distance_ext k x _ x (row_of k xs i) (λ j h. refl) (part_row xs i k at is)
+
+-- the same of a list of values that stand for floats
+pub part_distance_as : {A : Type 0} (value : A → Float) (missing : A) (x : ℕ → Float) (xs : List A) (i k at : ℕ) → at ≡ i * k → distance k x (vector_as value missing (take (at + k - at) (drop at xs))) ≡ distance k x (row_as value missing k xs i)
+part_distance_as value missing x xs i k at is = distance_ext k x _ x (row_as value missing k xs i) (λ j h. refl) (part_row_as xs i k at is value missing)
 
 -- the distance of two parts is that of their rows
 pub parts_distance : (xs ys : List Float) (m i k p at : ℕ) → p ≡ m * k → at ≡ i * k

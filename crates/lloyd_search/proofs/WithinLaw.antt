@@ -1,5 +1,6 @@
 -- What is at most 2 ^ b in size passes the check of magnitude with the limit 2 ^ b; so what passes it with a smaller
 -- limit does with a larger one. Assumes nothing.
+use Rattle.std.specs.Prelude.{None}
 use mathlib.Core.Path.{◌≡◌, sym, ap, subst}
 use Prim.Native.Nat.{ℕ, ◌*◌, ◌^◌, ◌≤◌, ◌<◌}
 use native.Mathlib.Nat.{not-le_of_lt, one-mul}
@@ -17,7 +18,6 @@ use lib.Ieee.Scale.{finite}
 use Rattle.ieee.specs.Bounds.{Upto}
 use Rattle.ieee.proofs.Order.{finite_number, le_or_lt}
 use Rattle.ieee.proofs.Bound.{upto_mono}
-use Rattle.slices.specs.declared.First.TheVariants.{Nowhere}
 use Rattle.slices.specs.Limit.{within, first_outside}
 use Rattle.slices.proofs.FirstLaw.{nowhere}
 use Rattle.lloyd_search.proofs.LimitLaw.{power, all_within}
@@ -46,8 +46,8 @@ upto_within b (fin s m e) h =
     is_true _ (and_i (le (neg (power b)) x) (le x (power b)) (not_lt_le (neg (power b)) x tt tt r.0) (not_lt_le x (power b) tt tt r.1))
 
 -- all values of a list
-pub all_upto : (b : ℕ) (xs : List Float) → ((i : ℕ) → i < length xs → Upto (get_or xs i nan) (2 ^ b)) → first_outside (power b) xs ≡ Nowhere
+pub all_upto : (b : ℕ) (xs : List Float) → ((i : ℕ) → i < length xs → Upto (get_or xs i nan) (2 ^ b)) → first_outside (power b) xs ≡ None
 all_upto b xs h = nowhere (λ i. not (within (power b) (get_or xs i nan))) (length xs) (λ i l. ap not (upto_within b (get_or xs i nan) (h i l)))
 
-pub wider : (a b : ℕ) (xs : List Float) → a ≤ b → first_outside (power a) xs ≡ Nowhere → first_outside (power b) xs ≡ Nowhere
+pub wider : (a b : ℕ) (xs : List Float) → a ≤ b → first_outside (power a) xs ≡ None → first_outside (power b) xs ≡ None
 wider a b xs l h = all_upto b xs (λ i m. upto_mono (get_or xs i nan) (2 ^ a) (2 ^ b) (all_within a xs h i m) (pow_mono {i = a} {j = b} l))

@@ -3,7 +3,6 @@
 use Rattle.std.specs.Prelude.{ℕ, zero, suc, ◌+◌, Bool, not, cond, eqb, Float}
 use Rattle.std.specs.Float.Ieee.{lt, le}
 use Rattle.lloyd_search.specs.declared.Choice.{Choice}
-use Rattle.lloyd_search.specs.declared.Four.{Four}
 use Rattle.lloyd_search.specs.Distance.{distance}
 use Rattle.lloyd_search.specs.Nearest.{pick, first_least}
 
@@ -26,10 +25,10 @@ passing c i x = record {
   last = cond (le x c.found.distance) i c.last;
 }
 
--- and after four more
-abbrev pub passing_four : Choice → ℕ → Four → Choice
-passing_four c i f =
-    passing (passing (passing (passing c i f.first) (i + 1) f.second) (i + 2) f.third) (i + 3) f.fourth
+-- and after m more, the first of which has this number, at these distances
+abbrev pub passing_all : Choice → ℕ → (ℕ → Float) → ℕ → Choice
+passing_all c i far zero = c
+passing_all c i far (suc m) = passing (passing_all c i far m) (i + m) (far m)
 
 -- the mark, as it is read off a choice
 abbrev pub mark_of : Choice → Bool

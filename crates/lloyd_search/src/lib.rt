@@ -1,11 +1,13 @@
 // The search of lloyd.rs: the squared distance, the nearest codeword and the mean error of a codebook.
 #![tactic(auto)]
 
-ghost use Rattle.std.specs.Prelude.{◌≡◌, ◌<◌, ◌≤◌, ◌+◌, ◌*◌, ◌/◌, ◌^◌, length};
-ghost use Rattle.lloyd_search.specs.Distance.{distance, vector_of, row_of};
+ghost use Rattle.std.specs.Prelude.{◌≡◌, ◌<◌, ◌≤◌, ◌+◌, ◌*◌, ◌/◌, ◌^◌, length, T, Float};
+ghost use Rattle.std.specs.Float.{nan};
+ghost use Rattle.std.specs.Float.Ieee.Scale.{finite};
+ghost use Rattle.lloyd_search.specs.Distance.{distance, vector_of, row_of, vector_as, row_as, Widens};
 ghost use Rattle.lloyd_search.specs.Nearest.{mean_error};
-ghost use Rattle.lloyd_search.specs.Choice.{passing, passing_four, mark_of, chosen};
-ghost use Rattle.lloyd_search.specs.Four.{Distances};
+ghost use Rattle.lloyd_search.specs.Choice.{passing, passing_all, mark_of, chosen};
+ghost use Rattle.lloyd_search.specs.Four.{four_from};
 ghost use Rattle.lloyd_search.specs.Shape.{codebook_shaped, samples_shaped};
 
 use profile::FibQuantProfile;
@@ -25,62 +27,101 @@ pub struct Choice {
     pub last: usize,
 }
 
+// Public only for the crates above: the choice before any codeword is passed.
+pub const NONE_PASSED: Choice = Choice {
+    found: Found {
+        index: 0,
+        distance: f64::INFINITY,
+    },
+    last: 0,
+};
+
+// A coordinate as it is stored, which stands for a float, its value, that `widen` gives as binary64. The value of
+// `missing` stands past the end of a list.
+// Kept: `widens`, where f64::from needs no such condition: its test for a NaN cost encode's search 5 to 8 %, one at a time 15 to 40 %.
+pub trait Coordinate: Copy {
+    ghost value: { Self → Float };
+
+    ghost missing: { Self };
+
+    ghost widens: { Self → Type 0 };
+
+    fn widen(self) -> f64
+        requires { widens self }
+        ensures { result ≡ value self };
+}
+
+impl Coordinate for f64 {
+    ghost value = { λ x. x };
+
+    ghost missing = { nan };
+
+    ghost widens = { λ x. Unit {0} };
+
+    fn widen(self) -> f64 {
+        self
+    }
+}
+
+impl Coordinate for f32 {
+    ghost value = { λ x. x };
+
+    ghost missing = { nan };
+
+    ghost widens = { λ x. T (finite x) };
+
+    #[tactic(auto, using(crate::proofs::WidenLaw::widens))]
+    fn widen(self) -> f64 {
+        self as f64
+    }
+}
+
 // Public only for the crates above: the squared distance of two vectors of one length.
-pub fn squared_distance(a: &[f64], b: &[f64]) -> f64
-    requires { length a.now ≡ length b.now }
-    ensures { result ≡ distance (length a.now) (vector_of a.now) (vector_of b.now) }
+#[tactic(auto, unfolding(ieee::specs::Sum::sum_to))]
+pub fn squared_distance<T: Coordinate>(a: &[f64], b: &[T]) -> f64
+    requires lengths { length a.now ≡ length b.now }
+    requires widens { Widens T.widens T.missing b.now }
+    ensures { result ≡ distance (length a.now) (vector_of a.now) (vector_as T.value T.missing b.now) }
 {
     let mut sum = 0.0;
-    let mut j = 0usize;
-    while j < a.len() {
-        let delta = a[j] - b[j];
+    for (j, x) in a.iter().enumerate() {
+        let delta = *x - b[j].widen();
         sum = sum + delta * delta;
-        j += 1usize;
     }
     sum
 }
 
-// Public only for the crates above: four distances.
-#[derive(Clone, Copy)]
-pub struct Four {
-    pub first: f64,
-    pub second: f64,
-    pub third: f64,
-    pub fourth: f64,
-}
-
-// Public only for the crates above: the squared distances of a block and four codewords: four sums side by side, each in
-// its own order. The codewords' values are not needed again, so x is taken from them, which spares a copy of x; the
-// square is the same.
-pub fn four_distances(block: &[f64], a: &[f64], b: &[f64], c: &[f64], d: &[f64]) -> Four
-    requires { (length a.now ≡ length block.now) × (length b.now ≡ length block.now)
-        × (length c.now ≡ length block.now) × (length d.now ≡ length block.now) }
-    ensures { Distances (length block.now) (vector_of block.now) (vector_of a.now)
-        (vector_of b.now) (vector_of c.now) (vector_of d.now) result }
+// Public only for the crates above: the squared distances of a vector and four that stand one after another from the
+// row of this number on: four sums side by side, each in its own order. The others' values are not needed again, so x is
+// taken from them, which spares a copy of x; the square is the same.
+#[tactic(auto, using(crate::proofs::Reading::read_widens))]
+pub fn distances_from<S: Coordinate, T: Coordinate>(rows: &[T], index: usize, one: &[S]) -> [f64; 4]
+    requires within { (index + 4) * length one.now ≤ length rows.now }
+    requires one_widens { Widens S.widens S.missing one.now }
+    requires rows_widen { Widens T.widens T.missing rows.now }
+    ensures { result ≡ four_from (length one.now) (vector_as S.value S.missing one.now)
+        (row_as T.value T.missing (length one.now) rows.now) index }
 {
-    let mut first = 0.0;
-    let mut second = 0.0;
-    let mut third = 0.0;
-    let mut fourth = 0.0;
-    let mut j = 0usize;
-    while j < block.len() {
-        let x = block[j];
-        let e = a[j] - x;
-        let f = b[j] - x;
-        let g = c[j] - x;
-        let h = d[j] - x;
-        first = first + e * e;
-        second = second + f * f;
-        third = third + g * g;
-        fourth = fourth + h * h;
-        j += 1usize;
+    let k = one.len();
+    let at = index * k;
+    let at2 = at + k;
+    let at3 = at2 + k;
+    let at4 = at3 + k;
+    let mut sums = [0.0; 4];
+    for (j, x) in one.iter().enumerate() {
+        let x = x.widen();
+        let e = rows[at + j].widen() - x;
+        let f = rows[at2 + j].widen() - x;
+        let g = rows[at3 + j].widen() - x;
+        let h = rows[at4 + j].widen() - x;
+        sums = [
+            sums[0] + e * e,
+            sums[1] + f * f,
+            sums[2] + g * g,
+            sums[3] + h * h,
+        ];
     }
-    Four {
-        first,
-        second,
-        third,
-        fourth,
-    }
+    sums
 }
 
 // Public only for the crates above: the choice after one more codeword. An equal one leaves the codeword found, and
@@ -110,107 +151,72 @@ pub fn is_tied(choice: Choice) -> bool
     choice.last != choice.found.index
 }
 
-// Public only for the crates above: the squared distances of a block to four codewords, the first of which has this
-// number.
-pub fn distances_from(codewords: &[f64], index: usize, block: &[f64]) -> Four
-    requires { (index + 4) * length block.now ≤ length codewords.now }
-    ensures { let row = row_of (length block.now) codewords.now in
-        Distances (length block.now) (vector_of block.now)
-        (row index) (row (index + 1)) (row (index + 2)) (row (index + 3)) result }
-{
-    let k = block.len();
-    let at = index * k;
-    let at2 = at + k;
-    let at3 = at2 + k;
-    let at4 = at3 + k;
-    let end = at4 + k;
-    four_distances(
-        block,
-        &codewords[at..at2],
-        &codewords[at2..at3],
-        &codewords[at3..at4],
-        &codewords[at4..end],
-    )
-}
-
 // Public only for the crates above: the choice after four more codewords, the first of which has this number.
-pub fn nearer_four(best: Choice, index: usize, four: Four) -> Choice
+pub fn nearer_four(best: Choice, index: usize, four: [f64; 4]) -> Choice
     requires { index + 3 < 2 ^ 64 }
-    ensures { result ≡ passing_four best index four }
+    ensures { result ≡ passing_all best index (vector_of four) 4 }
 {
-    let one = nearer(best, index, four.first);
-    let two = nearer(one, index + 1, four.second);
-    let three = nearer(two, index + 2, four.third);
-    nearer(three, index + 3, four.fourth)
+    let mut best = best;
+    for (m, distance) in four.iter().enumerate() {
+        best = nearer(best, index + m, *distance);
+    }
+    best
 }
 
-// The choice among the first `count` codewords, which are whole fours. The next four distances are under way while those
+// The choice among the first fours of codewords, so many of them. The next four distances are under way while those
 // before them are compared, which a processor can do side by side.
-fn search_fours(codewords: &[f64], count: usize, block: &[f64]) -> Choice
-    requires { (count ≡ count / 4 * 4) × (count * length block.now ≤ length codewords.now) }
-    ensures { result ≡ chosen (length block.now) count
-        (row_of (length block.now) codewords.now) (vector_of block.now) }
+fn search_fours<T: Coordinate>(codewords: &[T], fours: usize, block: &[f64]) -> Choice
+    requires within { fours * 4 * length block.now ≤ length codewords.now }
+    requires countable { fours * 4 < 2 ^ 64 }
+    requires widens { Widens T.widens T.missing codewords.now }
+    ensures { result ≡ chosen (length block.now) (fours * 4)
+        (row_as T.value T.missing (length block.now) codewords.now) (vector_of block.now) }
 {
-    let mut best = Choice {
-        found: Found {
-            index: 0,
-            distance: f64::from_bits(ieee::INFINITY),
-        },
-        last: 0,
-    };
-    if count == 0 {
+    let mut best = NONE_PASSED;
+    if fours == 0 {
         return best;
     }
+    let last = fours - 1;
     let mut four = distances_from(codewords, 0, block);
-    let mut i = 0usize;
-    while i + 4 < count {
-        let next = distances_from(codewords, i + 4, block);
-        best = nearer_four(best, i, four);
+    for turn in 0..last {
+        let index = turn * 4;
+        let next = distances_from(codewords, index + 4, block);
+        best = nearer_four(best, index, four);
         four = next;
-        i += 4usize;
     }
-    nearer_four(best, i, four)
+    nearer_four(best, last * 4, four)
 }
 
 // Public only for the crates above: the choice among n codewords that
 // stand one after another, four at a time and then one at a time.
-pub fn search(codewords: &[f64], n: usize, block: &[f64]) -> Choice
-    requires { length codewords.now ≡ n * length block.now }
+pub fn search<T: Coordinate>(codewords: &[T], n: usize, block: &[f64]) -> Choice
+    requires shape { length codewords.now ≡ n * length block.now }
+    requires widens { Widens T.widens T.missing codewords.now }
     ensures { result ≡ chosen (length block.now) n
-        (row_of (length block.now) codewords.now) (vector_of block.now) }
+        (row_as T.value T.missing (length block.now) codewords.now) (vector_of block.now) }
 {
     let k = block.len();
-    let mut i = n / 4 * 4;
-    let mut best = search_fours(codewords, i, block);
-    let mut at = i * k;
-    while i < n {
-        let end = at + k;
-        best = nearer(best, i, squared_distance(block, &codewords[at..end]));
-        at = end;
-        i += 1usize;
+    let mut best = search_fours(codewords, n / 4, block);
+    for i in n / 4 * 4..n {
+        let at = i * k;
+        best = nearer(best, i, squared_distance(block, &codewords[at..at + k]));
     }
     best
 }
 
 // Public only for the crates above: the mean error of a codebook over at least one whole sample.
+#[tactic(auto, unfolding(ieee::specs::Sum::sum_to))]
 pub fn mean_error(codewords: &[f64], n: usize, k: usize, samples: &[f64]) -> f64
     requires { (0 < k) × (length codewords.now ≡ n * k) × (0 < length samples.now / k)
         × (length samples.now ≡ length samples.now / k * k) }
     ensures { result ≡ mean_error k n (row_of k codewords.now) (row_of k samples.now)
         (length samples.now / k) }
 {
-    let count = samples.len() / k;
     let mut sum = 0.0;
-    let mut s = 0usize;
-    let mut at = 0usize;
-    while s < count {
-        let end = at + k;
-        let choice = search(codewords, n, &samples[at..end]);
-        sum = sum + choice.found.distance;
-        at = end;
-        s += 1usize;
+    for sample in samples.chunks_exact(k) {
+        sum = sum + search(codewords, n, sample).found.distance;
     }
-    sum / ieee::from_u64(count as u64)
+    sum / ieee::from_u64((samples.len() / k) as u64)
 }
 
 // Public only for the crates above: whether this many values are
@@ -218,19 +224,11 @@ pub fn mean_error(codewords: &[f64], n: usize, k: usize, samples: &[f64]) -> f64
 pub fn codebook_shaped(n: u64, k: u64, values: usize) -> bool
     ensures { result ≡ codebook_shaped n k values }
 {
-    if k < 1 {
-        return false;
-    }
-    if FibQuantProfile::MAX_BLOCK_DIM < k {
-        return false;
-    }
-    if n < 1 {
-        return false;
-    }
-    if FibQuantProfile::MAX_CODEBOOK_SIZE < n {
-        return false;
-    }
-    values as u64 == n * k
+    1 <= k
+        && k <= FibQuantProfile::MAX_BLOCK_DIM
+        && 1 <= n
+        && n <= FibQuantProfile::MAX_CODEBOOK_SIZE
+        && values as u64 == n * k
 }
 
 // Public only for the crates above: whether this many values are whole samples of k coordinates, at most ten million.
@@ -238,8 +236,5 @@ pub fn samples_shaped(k: u64, values: usize) -> bool
     requires { 0 < k }
     ensures { result ≡ samples_shaped k values }
 {
-    if values as u64 % k != 0 {
-        return false;
-    }
-    values as u64 / k <= FibQuantProfile::MAX_TRAINING_SAMPLES as u64
+    values as u64 % k == 0 && values as u64 / k <= FibQuantProfile::MAX_TRAINING_SAMPLES as u64
 }

@@ -1,40 +1,52 @@
--- Four blocks that stand one after another, as parts and as a part. Assumes nothing.
-use mathlib.Core.Path.{◌≡◌, refl, ap, ◌∙◌}
-use Prim.Native.Nat.{ℕ, ◌≤◌, ◌<◌, ◌-◌, ◌+◌, ◌*◌}
+-- Four blocks that stand one after another, and one codeword more. Assumes nothing.
+use Rattle.std.proofs.Common.{◌≡◌, ℕ, ◌+◌, ◌-◌, ◌*◌, ◌<◌, ◌≤◌, List, [], ◌∷◌, length, get_or, take, drop, Float, refl, ap, ◌∙◌, arith, get_or-take, get_or-drop}
 use native.Mathlib.Nat.{add-mul}
-use native.Mathlib.Omega.{arith}
-use mathlib.Core.List.{List}
-use lib.Dec.{lit<}
-use lib.ListN.{length, get_or, take, drop}
-use lib.Seq.{get_or-take, get_or-drop}
-use lib.Ieee.{Float, nan}
-use Rattle.lloyd_search.specs.declared.Four.{Four}
-use Rattle.lloyd_search_f32.specs.declared.FourChoices.{FourChoices}
-use Rattle.lloyd_search.specs.Distance.{vector_of, row_of}
-use Rattle.lloyd_search.specs.Choice.{chosen}
-use Rattle.lloyd_search_f32.specs.Four.{DistancesTo, FourChosen}
-use Rattle.lloyd_search.proofs.Parts.{row_place, part_length, parts_distance, chosen_ext}
+use Rattle.std.specs.Float.{nan, binary64}
+use Rattle.ieee.specs.Sum.{squared_difference}
+use Rattle.ieee.proofs.Bound.{sum_to_ext}
+use Rattle.ieee.proofs.Square.{square_turned}
+use Rattle.lloyd_search.specs.declared.Choice.{Choice}
+use Rattle.lloyd_search.specs.Distance.{distance, vector_of, row_of}
+use Rattle.lloyd_search.specs.Choice.{chosen, passing}
+use Rattle.lloyd_search.specs.Four.{four_from}
+use Rattle.lloyd_search_f32.specs.Four.{four_chosen}
+use Rattle.lloyd_search.proofs.Parts.{row_place, part_length, part_distance, chosen_ext}
+use Rattle.lloyd_search.proofs.NearestLaw.{one_more}
+use Rattle.lloyd_search.proofs.Fours.{four_each}
+
+-- the distance does not hang on which of the two is taken from the other
+distance_turned : (k : ℕ) (x y : ℕ → Float) → distance k x y ≡ distance k y x
+distance_turned k x y = sum_to_ext (λ j. squared_difference (x j) (y j)) (λ j. squared_difference (y j) (x j)) k (λ j l. square_turned binary64 (x j) (y j))
 
 -- the part of k values from `at` on
-abbrev part : List Float → ℕ → ℕ → List Float
+abbrev pub part : List Float → ℕ → ℕ → List Float
 part xs k at = take (at + k - at) (drop at xs)
 
--- the part that starts with the list
-first_part : (xs : List Float) (k : ℕ) → take k xs ≡ part xs k 0
-first_part xs k = let e : k ≡ 0 + k - 0 = omega arith in ap (λ (n : ℕ). take n xs) e
+module _ (xs ys : List Float) (i k : ℕ) (inside : i * k + k ≤ length xs) (far : List Float)
+    (is : far ≡ four_from (length (part xs k (i * k))) (vector_of (part xs k (i * k))) (row_of (length (part xs k (i * k))) ys) 0) where
+  -- the distances of a codeword to four blocks are the blocks' to the codeword
+  far_block : (m : ℕ) → m < 4 → vector_of far m ≡ distance k (row_of k ys m) (row_of k xs i)
+  far_block m l =
+      let e = part_length xs i k (i * k) refl inside in
+      let h = rw e at is in
+      ap (λ (f : List Float). vector_of f m) h ∙ four_each k (vector_of (part xs k (i * k))) (row_of k ys) 0 m l ∙ ap (λ (n : ℕ). distance k (vector_of (part xs k (i * k))) (row_of k ys n)) (omega arith)
+      ∙ distance_turned k (vector_of (part xs k (i * k))) (row_of k ys m) ∙ part_distance (row_of k ys m) xs i k (i * k) refl
 
--- the distances of four parts to a part are those of the rows
-pub rows_apart : (xs ys : List Float) (i k at : ℕ) (f : Four) → at ≡ i * k → at + k ≤ length xs
-    → DistancesTo (length (part xs k at)) (vector_of (part xs k at)) (vector_of (take k ys)) (vector_of (part ys k k)) (vector_of (part ys k (k + k))) (vector_of (part ys k (k + k + k))) f
-    → DistancesTo k (row_of k xs i) (row_of k ys 0) (row_of k ys 1) (row_of k ys 2) (row_of k ys 3) f
-rows_apart xs ys i k at f is h d =
-    let d' = rw (part_length xs i k at is h, first_part ys k) at d in
-    record {
-      of_first = d'.of_first ∙ parts_distance ys xs 0 i k 0 at (omega arith) is;
-      of_second = d'.of_second ∙ parts_distance ys xs 1 i k k at (omega arith) is;
-      of_third = d'.of_third ∙ parts_distance ys xs 2 i k (k + k) at (omega arith) is;
-      of_fourth = d'.of_fourth ∙ parts_distance ys xs 3 i k (k + k + k) at (omega arith) is;
-    }
+  -- and so the choice for a block after one codeword more
+  far_chosen : (m : ℕ) → m < 4 → (best : Choice) → best ≡ chosen k i (row_of k xs) (row_of k ys m) → passing best i (vector_of far m) ≡ chosen k (i + 1) (row_of k xs) (row_of k ys m)
+  far_chosen m l best h = one_more (λ n. distance k (row_of k ys m) (row_of k xs n)) i (i + 1) best _ (vector_of far m) refl h (far_block m l) refl
+
+  pub four_passed : (best : List Choice) (none a b c d : Choice) → best ≡ four_chosen k i (row_of k xs) (row_of k ys) → a ≡ passing (get_or best 0 none) i (vector_of far 0) → b ≡ passing (get_or best 1 none) i (vector_of far 1)
+      → c ≡ passing (get_or best 2 none) i (vector_of far 2) → d ≡ passing (get_or best 3 none) i (vector_of far 3)
+      → a ∷ b ∷ c ∷ d ∷ [] ≡ four_chosen k (i + 1) (row_of k xs) (row_of k ys)
+  four_passed best none a b c d h ea eb ec ed =
+      let was : (m : ℕ) → get_or best m none ≡ get_or (four_chosen k i (row_of k xs) (row_of k ys)) m none = λ m. ap (λ (l : List Choice). get_or l m none) h in
+      rw (
+        ea ∙ far_chosen 0 (omega arith) _ (was 0),
+        eb ∙ far_chosen 1 (omega arith) _ (was 1),
+        ec ∙ far_chosen 2 (omega arith) _ (was 2),
+        ed ∙ far_chosen 3 (omega arith) _ (was 3),
+      )
 
 -- four rows from row i on, handed over as a part
 rows_of_part : (xs : List Float) (i m k at : ℕ) → at ≡ i * k → m < 4 → (j : ℕ) → j < k → row_of k (take (at + 4 * k - at) (drop at xs)) m j ≡ row_of k xs (i + m) j
@@ -48,11 +60,5 @@ rows_of_part xs i m k at is h j l =
 row_chosen : (book : ℕ → ℕ → Float) (xs : List Float) (n i m k at : ℕ) → at ≡ i * k → m < 4 → chosen k n book (row_of k (take (at + 4 * k - at) (drop at xs)) m) ≡ chosen k n book (row_of k xs (i + m))
 row_chosen book xs n i m k at is h = chosen_ext k n book _ _ (rows_of_part xs i m k at is h)
 
-pub part_four_chosen : (book : ℕ → ℕ → Float) (xs : List Float) (n i k at : ℕ) (r : FourChoices) → at ≡ i * k → FourChosen k n book (row_of k (take (at + 4 * k - at) (drop at xs))) r
-    → FourChosen k n book (λ m. row_of k xs (i + m)) r
-part_four_chosen book xs n i k at r is h = record {
-  for_first = h.for_first ∙ row_chosen book xs n i 0 k at is (lit< tt);
-  for_second = h.for_second ∙ row_chosen book xs n i 1 k at is (lit< tt);
-  for_third = h.for_third ∙ row_chosen book xs n i 2 k at is (lit< tt);
-  for_fourth = h.for_fourth ∙ row_chosen book xs n i 3 k at is (lit< tt);
-}
+pub part_four_chosen : (book : ℕ → ℕ → Float) (xs : List Float) (n i k at : ℕ) → at ≡ i * k → four_chosen k n book (row_of k (take (at + 4 * k - at) (drop at xs))) ≡ four_chosen k n book (λ m. row_of k xs (i + m))
+part_four_chosen book xs n i k at is = rw (row_chosen book xs n i 0 k at is (omega arith), row_chosen book xs n i 1 k at is (omega arith), row_chosen book xs n i 2 k at is (omega arith), row_chosen book xs n i 3 k at is (omega arith))

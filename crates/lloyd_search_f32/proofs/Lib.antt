@@ -1,2 +1,1 @@
-mod WidenLaw
 pub mod FourBlocks

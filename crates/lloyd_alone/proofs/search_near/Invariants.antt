@@ -1,18 +1,8 @@
-use mathlib.Core.Path.{◌≡◌}
-use mathlib.Core.Bool.{true}
-use Prim.Native.Nat.{◌≤◌, ◌-◌, ◌*◌}
-use lib.ListN.{length}
+use Rattle.std.proofs.Common.{length}
 use Rattle.lloyd_search.specs.Distance.{vector_of, row_of}
-use Rattle.lloyd_search.specs.Choice.{chosen}
-use Rattle.lloyd_alone.specs.Watch.{AllNear, NoNan}
+use Rattle.lloyd_alone.specs.Watch.{Sees}
 use Rattle.lloyd_alone.proofs.search_near.Given as goal
 
 abbrev pub invariant-loop-i : goal.invariant-loop-i
 invariant-loop-i l =
-    (l.i ≤ l.n)
-    × (l.at ≡ l.i * length l.block)
-    × (NoNan (length l.block) l.i (row_of (length l.block) l.codewords) (vector_of l.block) → l.best ≡ chosen (length l.block) l.i (row_of (length l.block) l.codewords) (vector_of l.block))
-    × (l.near ≡ true → AllNear (length l.block) l.i (row_of (length l.block) l.codewords) (vector_of l.block))
-
-abbrev pub decreases-loop-i : goal.decreases-loop-i
-decreases-loop-i l = l.n - l.i
+    let k = length l.block in Sees k l.i (row_of k l.codewords) (vector_of l.block) (record { best = l.best; near = l.near })

@@ -1,12 +1,13 @@
 -- `lloyd_alone::small_distances` meets its contract. Assumes nothing.
-use mathlib.Core.Path.{sym, ◌∙◌}
-use mathlib.Core.Bool.{true≢false}
+use Rattle.std.proofs.Common.{◌≡◌, ℕ, Bool, true, not, Option, None, Some, refl, sym, ◌∙◌, true≢false}
+use Rattle.std.specs.Option.{is_some}
 use lib.Ieee.{of_bits}
 use Rattle.lloyd_alone.proofs.small_distances.Goals as goal
 
-pub returns-in-Nowhere : goal.returns-in-Nowhere
-unfolding of_bits
-returns-in-Nowhere c h = record { all_near = h; block_small = sym c.first_outside-bad.ensures ∙ c.in-Nowhere.is }
+none_there : (o : Option ℕ) (b : Bool) → is_some o ≡ not b → b ≡ true → o ≡ None
+none_there None b e h = refl
+none_there (Some x) b e h = absurd (true≢false (rw h at e))
 
-pub returns-in-At : goal.returns-in-At
-returns-in-At c h = absurd (true≢false (sym h))
+pub returns-then-seen : goal.returns-then-seen
+unfolding of_bits
+returns-then-seen c h = record { all_near = c.if-seen.true; block_small = sym c.first_outside.ensures ∙ none_there _ _ c.is_none.ensures h }

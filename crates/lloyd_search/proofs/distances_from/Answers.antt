@@ -1,106 +1,36 @@
--- `lloyd_search::distances_from` meets its contract: the four parts are rows of the list. Assumes nothing.
-use mathlib.Core.Path.{refl}
-use Prim.Native.Nat.{◌+◌, ◌*◌, ◌≤◌}
+-- `lloyd_search::distances_from` meets its contract: each sum is that of the coordinates passed. Assumes nothing.
+use Rattle.std.proofs.Common.{rules, ℕ, ◌+◌, ◌*◌, ◌<◌, ◌≤◌, length, arith, refl}
 use native.Mathlib.Nat.{add-mul}
-use native.Mathlib.Omega.{arith}
-use lib.ListN.{length}
-use Rattle.lloyd_search.specs.Distance.{vector_of}
-use Rattle.lloyd_search.proofs.Parts.{part_length}
-use Rattle.lloyd_search.proofs.Fours.{second, third, fourth, row_distances}
+use Rattle.ieee.specs.Sum.{sum_to}
+use lib.Ieee.{of_bits}
+use Rattle.lloyd_search.specs.Distance.{vector_as, row_as}
+use Rattle.lloyd_search.proofs.Reading.{read_row, read_vector, four_turned}
 use Rattle.lloyd_search.proofs.distances_from.Goals as goal
 
-pub overflow_mul-at : goal.overflow_mul-at
-overflow_mul-at c =
-    let inside : let a = c.args in
-    let k = length a.block.now in
-    a.index * k + k + k + k + k ≤ length a.codewords.now =
-    omega (arith, c.requires, add-mul c.args.index 4 (length c.args.block.now)) in
-    record { fits = omega (arith, inside, c.well_formed.0.0) }
+-- four rows from row i on lie within the list
+within : (i k j L : ℕ) → (i + 4) * k ≤ L → j < k → i * k + k + k + k + j < L
+within i k j L h l = omega (arith, add-mul i 4 k)
 
-pub overflow_add-at2 : goal.overflow_add-at2
-overflow_add-at2 c =
-    let inside : let a = c.args in
-    let k = length a.block.now in
-    a.index * k + k + k + k + k ≤ length a.codewords.now =
-    omega (arith, c.requires, add-mul c.args.index 4 (length c.args.block.now)) in
-    record { fits = omega (arith, inside, c.well_formed.0.0) }
+pub loop-j-init : goal.loop-j-init
+unfolding of_bits sum_to
+loop-j-init g c = refl
 
-pub overflow_add-at3 : goal.overflow_add-at3
-overflow_add-at3 c =
-    let inside : let a = c.args in
-    let k = length a.block.now in
-    a.index * k + k + k + k + k ≤ length a.codewords.now =
-    omega (arith, c.requires, add-mul c.args.index 4 (length c.args.block.now)) in
-    record { fits = omega (arith, inside, c.well_formed.0.0) }
-
-pub overflow_add-at4 : goal.overflow_add-at4
-overflow_add-at4 c =
-    let inside : let a = c.args in
-    let k = length a.block.now in
-    a.index * k + k + k + k + k ≤ length a.codewords.now =
-    omega (arith, c.requires, add-mul c.args.index 4 (length c.args.block.now)) in
-    record { fits = omega (arith, inside, c.well_formed.0.0) }
-
-pub overflow_add-end : goal.overflow_add-end
-overflow_add-end c =
-    let inside : let a = c.args in
-    let k = length a.block.now in
-    a.index * k + k + k + k + k ≤ length a.codewords.now =
-    omega (arith, c.requires, add-mul c.args.index 4 (length c.args.block.now)) in
-    record { fits = omega (arith, inside, c.well_formed.0.0) }
-
-pub offset_bounds-codewords-at : goal.offset_bounds-codewords-at
-offset_bounds-codewords-at c =
-    let inside : let a = c.args in
-    let k = length a.block.now in
-    a.index * k + k + k + k + k ≤ length a.codewords.now =
-    omega (arith, c.requires, add-mul c.args.index 4 (length c.args.block.now)) in
-    record { fits = omega (arith, inside, c.well_formed.0.1) }
-
-pub offset_bounds-codewords-at2 : goal.offset_bounds-codewords-at2
-offset_bounds-codewords-at2 c =
-    let inside : let a = c.args in
-    let k = length a.block.now in
-    a.index * k + k + k + k + k ≤ length a.codewords.now =
-    omega (arith, c.requires, add-mul c.args.index 4 (length c.args.block.now)) in
-    record { fits = omega (arith, inside, c.well_formed.0.1) }
-
-pub offset_bounds-codewords-at3 : goal.offset_bounds-codewords-at3
-offset_bounds-codewords-at3 c =
-    let inside : let a = c.args in
-    let k = length a.block.now in
-    a.index * k + k + k + k + k ≤ length a.codewords.now =
-    omega (arith, c.requires, add-mul c.args.index 4 (length c.args.block.now)) in
-    record { fits = omega (arith, inside, c.well_formed.0.1) }
-
-pub offset_bounds-codewords-at4 : goal.offset_bounds-codewords-at4
-offset_bounds-codewords-at4 c =
-    let inside : let a = c.args in
-    let k = length a.block.now in
-    a.index * k + k + k + k + k ≤ length a.codewords.now =
-    omega (arith, c.requires, add-mul c.args.index 4 (length c.args.block.now)) in
-    record { fits = omega (arith, inside, c.well_formed.0.1) }
-
-pub four_distances-requires : goal.four_distances-requires
-four_distances-requires c =
-    let inside : let a = c.args in
-    let k = length a.block.now in
-    a.index * k + k + k + k + k ≤ length a.codewords.now =
-    omega (arith, c.requires, add-mul c.args.index 4 (length c.args.block.now)) in
-    let s = c in
-    let a = s.args in
-    let k = length a.block.now in
-    let at = a.index * k in
-    let cw = a.codewords.now in
-    let h = inside in (
-      part_length cw a.index k at refl (omega arith),
-      part_length cw (a.index + 1) k (at + k) (second a.index k at refl) (omega arith),
-      part_length cw (a.index + 2) k (at + k + k) (third a.index k at refl) (omega arith),
-      part_length cw (a.index + 3) k (at + k + k + k) (fourth a.index k at refl) (omega arith),
-    )
-
-pub returns : goal.returns
-returns c =
-    let a = c.args in
-    let k = length a.block.now in
-    row_distances (vector_of a.block.now) a.codewords.now a.index k (a.index * k) c.four_distances.result refl c.four_distances.ensures
+pub loop-j-preserved : goal.loop-j-preserved
+loop-j-preserved g c =
+    let l = c.loop-j in
+    let s = g.S.Coordinate in
+    let t = g.T.Coordinate in
+    let i = c.args.index in
+    let k = length c.args.one.now in
+    let rows = c.args.rows.now in
+    let h = within i k l.j _ c.requires.within c.loop-j-test.true in
+    let m = add-mul i 1 k in
+    let n = add-mul i 2 k in
+    let o = add-mul i 3 k in
+    four_turned (vector_as s.value s.missing c.args.one.now) (row_as t.value t.missing k rows) i l.j l.sums c.widen-x.result c.widen.result c.widen-in-loop-j.result c.widen-in-loop-j-2.result c.widen-in-loop-j-3.result
+    l.invariant
+    (rw c.widen-x.ensures (read_vector c.args.one.now l.j _ (search rules) c.index-one-j.is s.value s.missing))
+    (rw c.widen.ensures (read_row rows _ _ (omega (arith, h)) c.index-rows-at.is t.value t.missing k i l.j refl))
+    (rw c.widen-in-loop-j.ensures (read_row rows _ _ (omega (arith, h)) c.index-rows-at2.is t.value t.missing k (i + 1) l.j (omega (arith, m))))
+    (rw c.widen-in-loop-j-2.ensures (read_row rows _ _ (omega (arith, h)) c.index-rows-at3.is t.value t.missing k (i + 2) l.j (omega (arith, n))))
+    (rw c.widen-in-loop-j-3.ensures (read_row rows _ _ h c.index-rows-at4.is t.value t.missing k (i + 3) l.j (omega (arith, o))))

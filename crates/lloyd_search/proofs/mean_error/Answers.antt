@@ -1,64 +1,22 @@
 -- `lloyd_search::mean_error` meets its contract: the sum is that of the samples passed. Assumes nothing.
-use mathlib.Core.Path.{◌≡◌, refl, sym, ap, ◌∙◌}
-use Prim.Native.Nat.{ℕ, ◌≤◌, ◌+◌, ◌*◌, ◌/◌}
-use native.Mathlib.Nat.{div-le_self}
-use native.Mathlib.Omega.{arith}
-use native.Mathlib.Numerals.{add-one}
-use lib.ListN.{length}
-use lib.Ieee.{of_bits}
-use borrow.Author.Rules.{rules}
+use Rattle.std.proofs.Common.{length, add-one, length-append, sym, ◌∙◌}
 use Rattle.ieee.specs.Sum.{sum_to}
-use Rattle.lloyd_search.proofs.Parts.{row_fits, next_row, part_length, part_chosen}
+use Rattle.lloyd_search.proofs.Chunks.{rest_is, chunk_chosen}
 use Rattle.lloyd_search.proofs.mean_error.Goals as goal
 
-pub loop-s-init : goal.loop-s-init
-unfolding of_bits sum_to
-loop-s-init c = (search rules, omega arith, refl)
-
-pub overflow_add-end : goal.overflow_add-end
-overflow_add-end c =
-    let inside : c.loop-s.at + c.args.k ≤ length c.args.samples.now =
-    let a = c.args in
-    row_fits c.loop-s.s (length a.samples.now / a.k) a.k c.loop-s.at (length a.samples.now) c.loop-s-test.true c.loop-s.invariant.1 c.requires.3 in
-    record { fits = omega (arith, inside) }
-
-pub offset_bounds-samples-at : goal.offset_bounds-samples-at
-offset_bounds-samples-at c =
-    let inside : c.loop-s.at + c.args.k ≤ length c.args.samples.now =
-    let a = c.args in
-    row_fits c.loop-s.s (length a.samples.now / a.k) a.k c.loop-s.at (length a.samples.now) c.loop-s-test.true c.loop-s.invariant.1 c.requires.3 in
-    record { fits = omega (arith, inside, c.well_formed.1.1.1.0.1) }
-
-pub search-choice-requires : goal.search-choice-requires
-search-choice-requires c =
-    let inside : c.loop-s.at + c.args.k ≤ length c.args.samples.now =
-    let a = c.args in
-    row_fits c.loop-s.s (length a.samples.now / a.k) a.k c.loop-s.at (length a.samples.now) c.loop-s-test.true c.loop-s.invariant.1 c.requires.3 in
-    let l = c in
-    let a = l.args in
-    l.requires.1 ∙ ap (λ (m : ℕ). a.n * m) (sym (part_length a.samples.now l.loop-s.s a.k l.loop-s.at l.loop-s.invariant.1 (inside)))
-
-pub overflow_add-s : goal.overflow_add-s
-overflow_add-s c =
-    let a = c.args in
-    record { fits = omega (arith, c.loop-s-test.true, div-le_self (length a.samples.now) a.k, c.well_formed.1.1.1.0.0) }
-
-pub loop-s-preserved : goal.loop-s-preserved
+pub loop-sample-preserved : goal.loop-sample-preserved
 unfolding sum_to
-loop-s-preserved c =
-    let inside : c.loop-s.at + c.args.k ≤ length c.args.samples.now =
-    let a = c.args in
-    row_fits c.loop-s.s (length a.samples.now / a.k) a.k c.loop-s.at (length a.samples.now) c.loop-s-test.true c.loop-s.invariant.1 c.requires.3 in
-    let l = c in
-    let a = l.args in
-    let e = c.search-choice.ensures ∙ part_chosen a.codewords.now a.samples.now a.n l.loop-s.s a.k l.loop-s.at l.loop-s.invariant.1 (inside) in
-    (search rules, next_row l.loop-s.s a.k l.loop-s.at _ l.loop-s.invariant.1 refl, rw (add-one, l.loop-s.invariant.2, e))
-
-pub from_u64-requires : goal.from_u64-requires
-from_u64-requires c = tt
-
-pub returns : goal.returns
-returns c =
-    let a = c.args in
-    let e : c.loop-s.s ≡ length a.samples.now / a.k = omega arith in
-    rw (c.from_u64.ensures, c.loop-s.invariant.2, e)
+loop-sample-preserved c =
+    let xs = c.args.samples.now in
+    let k = c.args.k in
+    let l = c.loop-sample in
+    let s = length l.yielded in
+    let step = c.in-Some.ensures.steps in
+    let long = step.1.1 ∙ l.invariant.size in
+    let now = sym l.invariant.rest ∙ step.1.0 in
+    let found = c.search-sum.ensures ∙ chunk_chosen xs c.in-Some.sample.now _ s k now long c.args.codewords.now c.args.n c.requires.0 in
+    record {
+      size = step.0 ∙ l.invariant.size;
+      rest = rw length-append (rest_is xs c.in-Some.sample.now _ s k now long);
+      sum = rw (length-append, add-one, l.invariant.sum, found);
+    }

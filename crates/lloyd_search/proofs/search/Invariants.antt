@@ -1,13 +1,10 @@
-use mathlib.Core.Path.{◌≡◌}
-use Prim.Native.Nat.{◌≤◌, ◌-◌, ◌*◌}
-use lib.ListN.{length}
-use Rattle.lloyd_search.specs.Distance.{vector_of, row_of}
+use Rattle.std.proofs.Common.{◌≡◌, length}
+use Rattle.lloyd_search.specs.Distance.{vector_of, row_as}
 use Rattle.lloyd_search.specs.Choice.{chosen}
 use Rattle.lloyd_search.proofs.search.Given as goal
 
 abbrev pub invariant-loop-i : goal.invariant-loop-i
-invariant-loop-i l =
-    (l.i ≤ l.n) × (l.at ≡ l.i * length l.block) × (l.best ≡ chosen (length l.block) l.i (row_of (length l.block) l.codewords) (vector_of l.block))
-
-abbrev pub decreases-loop-i : goal.decreases-loop-i
-decreases-loop-i l = l.n - l.i
+invariant-loop-i g l =
+    let t = g.T.Coordinate in
+    let k = length l.block in
+    l.best ≡ chosen k l.i (row_as t.value t.missing k l.codewords) (vector_of l.block)
