@@ -1,59 +1,40 @@
--- Laws of the checks: the division that finds a size past 2^64 - 1, the first
--- index above a bound, and the two answers check by check. Assumes nothing.
-use Prim.Native.Nat.{ℕ, zero, suc, ◌+◌, ◌*◌, ◌-◌, ◌/◌, ◌^◌, ◌<◌, ◌≤◌}
+-- Laws of the checks: the first index above a bound, what a size that is completed says, and the answers that follow.
+-- Assumes nothing.
+use Prim.Native.Nat.{ℕ, zero, suc, ◌+◌, ◌*◌, ◌-◌, ◌^◌, ◌<◌, ◌≤◌}
 use mathlib.Core.Path.{◌≡◌, refl, sym, ◌∙◌}
 use mathlib.Core.Bool.{Bool, true, false, cond}
 use mathlib.Core.List.{List, [], ◌∷◌}
+use Rattle.std.specs.List.{find}
+use Rattle.std.specs.Option.{option_map_or}
+use Rattle.std.specs.Prelude.{None, Some}
 use mathlib.Core.Logic.{inl, inr, ⊎_elim}
-use native.Mathlib.Nat.{le-div_iff_mul-le, div-lt_iff_lt-mul}
-use native.Mathlib.Numerals.{add-one}
 use native.Mathlib.Omega.{arith}
-use lib.ListN.{length, get_or, drop, drop_of_length-le}
-use lib.Seq.{drop-cons}
+use lib.ListN.{length, get_or}
 use lib.Dec.{ltb}
-use borrow.Author.Tests.{lt-ltb, le-ltb, ltb-true, ltb-false, le-leb, lt-leb, leb-true, eq-eqb, ne_eqb, not-false}
-use Rattle.error.specs.Numbers.{Value, Outcome, completed, refused, whole}
+use borrow.Author.Tests.{ltb-true, ltb-false, leb-true, eq-eqb, not-false, le-leb, le-ltb}
+use Rattle.error.specs.Numbers.{Value, Outcome, completed, refused, whole, if_completed}
 use Rattle.error.proofs.Outcomes.{both, never, completed_same, passed}
-use Rattle.bitpack.specs.Layout.{bytes_for, padding_from}
-use Rattle.bitpack.specs.Answers.{packed_size, in_range, packable, unpackable}
+use Rattle.bitpack.specs.Layout.{bytes_for}
+use Rattle.bitpack.specs.Answers.{packed_size, in_range, packable}
 use Rattle.bitpack.specs.Range.{Ranged}
-
--- the quotient that the program compares with: at most it, the bits and 7 fit; above it, they do not
-pub size_fits : (count w : ℕ) → 0 < w → count ≤ 0xFFFFFFFFFFFFFFF8 / w → count * w + 7 < 2 ^ 64
-size_fits count w pos l = omega (arith, (le-div_iff_mul-le {k = w} {x = count} {y = 0xFFFFFFFFFFFFFFF8} pos).0 l)
-
-pub size_passes : (count w : ℕ) → 0 < w → 0xFFFFFFFFFFFFFFF8 / w < count → 2 ^ 64 - 1 < count * w + 7
-size_passes count w pos l = omega (arith, (div-lt_iff_lt-mul {k = w} {x = 0xFFFFFFFFFFFFFFF8} {y = count} pos).0 l)
-
-pub size_narrow : (count w : ℕ) → w < 1 → packed_size count w ≡ refused 9 (whole 1 ∷ [])
-unfolding packed_size
-size_narrow count w l = rw (lt-leb 1 w l)
-
-pub size_wide : (count w : ℕ) → 1 ≤ w → 32 < w → packed_size count w ≡ refused 9 (whole 1 ∷ [])
-unfolding packed_size
-size_wide count w h l = rw (le-leb 1 w h, lt-leb w 32 l)
-
-pub size_large : (count w : ℕ) → 1 ≤ w → w ≤ 32 → 2 ^ 64 - 1 < count * w + 7 → packed_size count w ≡ refused 5 []
-unfolding packed_size
-size_large count w h l p = rw (le-leb 1 w h, le-leb w 32 l, lt-ltb (2 ^ 64 - 1) (count * w + 7) p)
 
 pub size_is : (count w : ℕ) → 1 ≤ w → w ≤ 32 → count * w + 7 < 2 ^ 64 → packed_size count w ≡ completed (bytes_for (count * w))
 unfolding packed_size
 size_is count w h l p = rw (le-leb 1 w h, le-leb w 32 l, le-ltb (2 ^ 64 - 1) (count * w + 7) (omega arith))
 
--- an index that is at most the bound is passed, one above it is the answer, and the end is reached
-pub range_passed : (xs : List ℕ) (bound i : ℕ) → i < length xs → get_or xs i 0 ≤ bound → in_range (drop i xs) bound ≡ in_range (drop (i + 1) xs) bound
-unfolding in_range
-range_passed xs bound i l h = rw (add-one i, drop-cons xs i 0 l, le-ltb bound (get_or xs i 0) h)
+abbrev pub above : ℕ → ℕ → Outcome Unit
+above bound x = refused 11 (whole x ∷ whole bound ∷ [])
 
-pub range_above : (xs : List ℕ) (bound i : ℕ) → i < length xs → bound < get_or xs i 0
-    → in_range (drop i xs) bound ≡ refused 11 (whole (get_or xs i 0) ∷ whole bound ∷ [])
+-- the first index above the bound, if there is one, is what `in_range` refuses
+pub range_found : (xs : List ℕ) (bound : ℕ) → in_range xs bound ≡ option_map_or (above bound) (find (ltb bound) xs) (completed tt)
 unfolding in_range
-range_above xs bound i l h = rw (drop-cons xs i 0 l, lt-ltb bound (get_or xs i 0) h)
-
-pub range_end : (xs : List ℕ) (bound i : ℕ) → length xs ≤ i → in_range (drop i xs) bound ≡ completed tt
-unfolding in_range
-range_end xs bound i l = rw (drop_of_length-le xs l)
+range_found [] bound = refl
+range_found (x ∷ xs) bound = go (ltb bound x) (range_found xs bound)
+  where
+    go : (t : Bool) → in_range xs bound ≡ option_map_or (above bound) (find (ltb bound) xs) (completed tt)
+        → cond t (above bound x) (in_range xs bound) ≡ option_map_or (above bound) (cond t (Some x) (find (ltb bound) xs)) (completed tt)
+    go true e = refl
+    go false e = e
 
 each_more : (x : ℕ) (xs : List ℕ) (bound n : ℕ) → x ≤ bound → ((j : ℕ) → j < n → get_or xs j 0 ≤ bound) → (j : ℕ) → j < suc n → get_or (x ∷ xs) j 0 ≤ bound
 each_more x xs bound n l h zero b = l
@@ -95,30 +76,22 @@ size_completed count w size e =
     let few = ltb-false (2 ^ 64 - 1) (count * w + 7) bits.0 in
     record { wide = leb-true 1 w within.0; narrow = leb-true w 32 within.1; fits = omega arith; is = sym (completed_same _ _ bits.1) }
 
--- the answer of packing, check by check
-pub pack_size : (xs : List ℕ) (w room n : ℕ) (values : List Value) → packed_size (length xs) w ≡ refused n values → packable xs w room ≡ refused n values
-pack_size xs w room n values e = rw e
+-- what a buffer holds after a refusal, and after what was completed
+pub unchanged : {B : Type 0} {o : Outcome Unit} {n : ℕ} {values : List Value} (new old : B) → o ≡ refused n values
+    → (refused n values ≡ o) × (old ≡ if_completed o new old)
+unchanged new old e = (sym e, rw e)
 
-pub pack_room : (xs : List ℕ) (w room size : ℕ) → packed_size (length xs) w ≡ completed size → (room ≡ size → ⊥) → packable xs w room ≡ refused 7 (whole 6 ∷ [])
-pack_room xs w room size e h = rw (e, ne_eqb room size h)
+pub written : {B : Type 0} {o : Outcome Unit} (new old : B) → o ≡ completed tt → (completed tt ≡ o) × (new ≡ if_completed o new old)
+written new old e = (sym e, rw e)
 
+-- the answer of packing, once the output has room
 pub pack_range : (xs : List ℕ) (w room size : ℕ) → packed_size (length xs) w ≡ completed size → room ≡ size → packable xs w room ≡ in_range xs (2 ^ w - 1)
 pack_range xs w room size e h = rw (e, eq-eqb room size h)
 
--- the answer of unpacking, check by check
-pub unpack_size : (bytes : List ℕ) (count w room n : ℕ) (values : List Value) → packed_size count w ≡ refused n values → unpackable bytes count w room ≡ refused n values
-unpack_size bytes count w room n values e = rw e
+-- what the scan up to the program's bound says of the indices
+pub pack_found : (xs : List ℕ) (w bound index : ℕ) → bound ≡ 2 ^ w - 1 → Some index ≡ find (ltb bound) xs
+    → in_range xs (2 ^ w - 1) ≡ refused 11 (whole index ∷ whole bound ∷ [])
+pack_found xs w bound index e h = rw (← e, range_found xs bound, ← h)
 
-pub unpack_length : (bytes : List ℕ) (count w room size : ℕ) → packed_size count w ≡ completed size → (length bytes ≡ size → ⊥)
-    → unpackable bytes count w room ≡ refused 9 (whole 2 ∷ [])
-unpack_length bytes count w room size e h = rw (e, ne_eqb (length bytes) size h)
-
-module _ (bytes : List ℕ) (count w room size : ℕ) (e : packed_size count w ≡ completed size) (len : length bytes ≡ size) where
-  pub unpack_padding : (padding_from bytes (count * w) ≡ 0 → ⊥) → unpackable bytes count w room ≡ refused 9 (whole 3 ∷ [])
-  unpack_padding h = rw (e, eq-eqb (length bytes) size len, ne_eqb (padding_from bytes (count * w)) 0 h)
-
-  pub unpack_room : padding_from bytes (count * w) ≡ 0 → (room ≡ count → ⊥) → unpackable bytes count w room ≡ refused 7 (whole 6 ∷ [])
-  unpack_room z h = rw (e, eq-eqb (length bytes) size len, eq-eqb (padding_from bytes (count * w)) 0 z, ne_eqb room count h)
-
-  pub unpack_done : padding_from bytes (count * w) ≡ 0 → room ≡ count → unpackable bytes count w room ≡ completed tt
-  unpack_done z h = rw (e, eq-eqb (length bytes) size len, eq-eqb (padding_from bytes (count * w)) 0 z, eq-eqb room count h)
+pub pack_none : (xs : List ℕ) (w bound : ℕ) → bound ≡ 2 ^ w - 1 → None ≡ find (ltb bound) xs → in_range xs (2 ^ w - 1) ≡ completed tt
+pack_none xs w bound e h = rw (← e, range_found xs bound, ← h)

@@ -156,14 +156,7 @@ finishable f p old out writer r room =
       room = omega arith;
     }
 
--- the end of a stream that has no bit set from p on: nothing is held, or the last byte is what is held
-pub finish_whole : (f : ℕ → ℕ) (p : ℕ) (old out : List ℕ) (at acc : ℕ) → Writing f p old out at acc 0
-    → out ≡ filled (bytes_for p) (byte_of f) old
-finish_whole f p old out at acc r =
-    let place = r.place in
-    let e : bytes_for p ≡ at = omega arith in
-    rw e r.done
-
+-- the end of a stream that has no bit set from p on: the last byte is what is held
 pub finish_part : (f : ℕ → ℕ) (p : ℕ) (old out : List ℕ) (at acc have : ℕ) → Writing f p old out at acc have → 0 < have → have < 8 → at < length old
     → ((j : ℕ) → p ≤ j → f j ≡ 0) → set out at acc ≡ filled (bytes_for p) (byte_of f) old
 finish_part f p old out at acc have r pos few h clear =

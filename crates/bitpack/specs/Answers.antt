@@ -2,17 +2,7 @@
 use Rattle.std.specs.Prelude.{ℕ, ◌+◌, ◌*◌, ◌-◌, ◌^◌, cond, not, ◌&&◌, List, [], ◌∷◌, length, ltb, leb, eqb}
 use Rattle.error.specs.Names.{output_slice, packed_length_site, packed_width_site, padding_bit_site}
 use Rattle.error.specs.Numbers.{Outcome, completed, refused, whole, and_then}
-use Rattle.bitpack.specs.declared.Size.{Size}
-use Rattle.bitpack.specs.declared.Size.TheVariants.{Bytes, WidthUnfit, TooLarge}
-use Rattle.bitpack.specs.declared.Scan.{Scan}
-use Rattle.bitpack.specs.declared.Scan.TheVariants.{Clean, Offending}
 use Rattle.bitpack.specs.Layout.{bytes_for, padding_from}
-
--- a `Size` by the table
-abbrev pub sized : Size → Outcome ℕ
-sized (Bytes n) = completed n
-sized WidthUnfit = refused 9 (whole packed_width_site ∷ [])
-sized TooLarge = refused 5 []
 
 -- the bytes that count indices of width w take: 9 at site 1 for a width that is not 1 to 32, 5 for a number of bits that
 -- passes 2^64 - 1 when 7 is added, and so for one that passes it already
@@ -21,11 +11,6 @@ packed_size count w =
     cond (not (leb 1 w && leb w 32)) (refused 9 (whole packed_width_site ∷ []))
     (cond (ltb (2 ^ 64 - 1) (count * w + 7)) (refused 5 [])
     (completed (bytes_for (count * w))))
-
--- a `Scan` for indices up to a bound, by the table
-abbrev pub scanned : Scan → ℕ → Outcome Unit
-scanned Clean bound = completed tt
-scanned (Offending index) bound = refused 11 (whole index ∷ whole bound ∷ [])
 
 -- the first index above the bound is refused by 11
 unfoldable pub in_range : List ℕ → ℕ → Outcome Unit

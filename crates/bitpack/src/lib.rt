@@ -1,29 +1,15 @@
 // Indices of a fixed width packed into bytes, low bit first, and read back.
 #![tactic(auto)]
 
-ghost use Rattle.std.specs.Prelude.{◌≡◌, List, ℕ, ◌+◌, ◌*◌, ◌-◌, ◌^◌, ◌≤◌, ◌<◌, length, get_or};
-ghost use Rattle.error.specs.Numbers.{checked, if_completed};
+ghost use Rattle.std.specs.Prelude.{◌≡◌, List, ℕ, ◌+◌, ◌*◌, ◌-◌, ◌^◌, ◌≤◌, ◌<◌, length, get_or, nat_lt};
+ghost use Rattle.std.specs.List.{find};
+ghost use Rattle.error.specs.Numbers.{outcome, if_completed};
 ghost use Rattle.slices.specs.Lists.{filled};
 ghost use Rattle.bitpack.specs.Layout.{field, byte_of, bytes_for, packed_bytes, unpacked_indices, padding_from};
-ghost use Rattle.bitpack.specs.Answers.{sized, packed_size, scanned, in_range, packable, unpackable};
+ghost use Rattle.bitpack.specs.Answers.{packed_size, packable, unpackable};
 ghost use Rattle.bitpack.specs.Cursor.{ReaderAt, Pullable, PulledAt, WriterAt, Pushable, Finishable};
 
-use error::{Checked, Refusal, names};
-
-// How many bytes a packing takes, or why there is none.
-#[derive(Clone, Copy)]
-pub enum Size {
-    Bytes(u64),
-    WidthUnfit,
-    TooLarge,
-}
-
-// What a scan found: no index above the bound, or the first one that is.
-#[derive(Clone, Copy)]
-pub enum Scan {
-    Clean,
-    Offending(u32),
-}
+use error::{PackingSite, Refusal, Slice};
 
 // A place in a packed byte string, made only by `new` and `pull`: `at` is the
 // next byte to read, `acc` the `have` bits that were read and not yet handed out.
@@ -71,6 +57,7 @@ impl BitReader {
         let mut at = self.at;
         let mut acc = self.acc;
         let mut have = self.have;
+        // Kept: it stops at so many bits, and no list or range is walked to its end.
         while have < w {
             acc += (bytes[at] as u64) << have;
             have += 8;
@@ -115,6 +102,7 @@ impl BitWriter {
         let held = self.have;
         let mut acc = low + ((value as u64) << held);
         let mut have = held + w;
+        // Kept: as `pull`, by the bits that are held.
         while 8 <= have {
             out[at] = (acc % 256) as u8;
             acc = acc / 256;
@@ -139,37 +127,27 @@ impl BitWriter {
 }
 
 // The length of a packing of `count` indices.
-pub fn packed_size(count: u64, width: u8) -> Size
-    ensures { sized result ≡ packed_size count width }
+#[tactic(auto, unfolding(crate::specs::Answers::packed_size))]
+pub fn packed_size(count: u64, width: u8) -> Result<u64, Refusal>
+    ensures { outcome result ≡ packed_size count width }
 {
     if width < 1 || 32 < width {
-        return Size::WidthUnfit;
+        return Err(Refusal::PackedIndices(PackingSite::Width));
     }
-    let w = width as u64;
-    if 0xFFFF_FFFF_FFFF_FFF8 / w < count {
-        return Size::TooLarge;
+    let padded = count
+        .checked_mul(width as u64)
+        .and_then(|bits| bits.checked_add(7));
+    match padded {
+        Some(bits) => Ok(bits / 8),
+        None => Err(Refusal::ResourceLimitExceeded),
     }
-    let bits = count * w;
-    let bytes = (bits + 7) / 8;
-    Size::Bytes(bytes)
 }
 
 // The first index above the bound.
-fn first_above(indices: &[u32], bound: u32) -> Scan
-    ensures { scanned result bound ≡ in_range indices.now bound }
+fn first_above(indices: &[u32], bound: u32) -> Option<u32>
+    ensures { result ≡ find (λ index. nat_lt bound index) indices.now }
 {
-    let mut i = 0;
-    let found = loop {
-        if indices.len() <= i {
-            break Scan::Clean;
-        }
-        let v = indices[i];
-        if bound < v {
-            break Scan::Offending(v);
-        }
-        i += 1;
-    };
-    found
+    indices.iter().copied().find(|index| bound < *index)
 }
 
 // The packing of indices that all fit, into a buffer of its length.
@@ -179,42 +157,28 @@ fn write_indices(indices: &[u32], width: u8, output: &mut [u8])
     ensures { output.new ≡ packed_bytes indices.now width }
 {
     let mut writer = BitWriter::new();
-    let mut i = 0;
-    while i < indices.len() {
-        writer = writer.push(indices[i], width, output);
-        i += 1;
+    for index in indices {
+        writer = writer.push(*index, width, output);
     }
     writer.finish(output);
 }
 
 // The packing of the indices into the output, which has its length.
-pub fn pack_indices(indices: &[u32], width: u8, output: &mut [u8]) -> Checked
+pub fn pack_indices(indices: &[u32], width: u8, output: &mut [u8]) -> Result<(), Refusal>
     ensures { let o = packable indices.now width (length output.old) in
-        (checked result ≡ o)
+        (outcome result ≡ o)
         × (output.new ≡ if_completed o (packed_bytes indices.now width) output.old) }
 {
-    let size = packed_size(indices.len() as u64, width);
-    match size {
-        Size::WidthUnfit => Checked::Refused(Refusal::PackedIndices(names::PACKED_WIDTH_SITE)),
-        Size::TooLarge => Checked::Refused(Refusal::ResourceLimitExceeded),
-        Size::Bytes(len) => {
-            if output.len() as u64 != len {
-                return Checked::Refused(Refusal::SliceLength(names::OUTPUT_SLICE));
-            }
-            let bound = ((1u64 << width) - 1) as u32;
-            let found = first_above(indices, bound);
-            match found {
-                Scan::Offending(v) => Checked::Refused(Refusal::IndexOutOfRange {
-                    index: v,
-                    bound,
-                }),
-                Scan::Clean => {
-                    write_indices(indices, width, output);
-                    Checked::Accepted
-                }
-            }
-        }
+    let len = packed_size(indices.len() as u64, width)?;
+    if output.len() as u64 != len {
+        return Err(Refusal::SliceLength(Slice::Output));
     }
+    let bound = ((1u64 << width) - 1) as u32;
+    if let Some(index) = first_above(indices, bound) {
+        return Err(Refusal::IndexOutOfRange { index, bound });
+    }
+    write_indices(indices, width, output);
+    Ok(())
 }
 
 // The value of the bits after the first `total`, in a byte string
@@ -237,40 +201,37 @@ fn read_indices(bytes: &[u8], width: u8, output: &mut [u32])
     ensures { output.new ≡ unpacked_indices bytes.now (length output.old) width }
 {
     let mut reader = BitReader::new();
-    let mut i = 0;
-    while i < output.len() {
+    for index in output.iter_mut() {
         let pulled = reader.pull(bytes, width);
-        output[i] = pulled.value;
+        *index = pulled.value;
         reader = pulled.next;
-        i += 1;
     }
 }
 
 // The `count` indices of a packing into the output, which has room
 // for just these. A packing with a padding bit set is refused.
-pub fn unpack_indices(bytes: &[u8], count: u64, width: u8, output: &mut [u32]) -> Checked
+pub fn unpack_indices(
+    bytes: &[u8],
+    count: u64,
+    width: u8,
+    output: &mut [u32],
+) -> Result<(), Refusal>
     ensures { let o = unpackable bytes.now count width (length output.old) in
-        (checked result ≡ o)
+        (outcome result ≡ o)
         × (output.new
         ≡ if_completed o (unpacked_indices bytes.now count width) output.old) }
 {
-    let size = packed_size(count, width);
-    match size {
-        Size::WidthUnfit => Checked::Refused(Refusal::PackedIndices(names::PACKED_WIDTH_SITE)),
-        Size::TooLarge => Checked::Refused(Refusal::ResourceLimitExceeded),
-        Size::Bytes(len) => {
-            if bytes.len() as u64 != len {
-                return Checked::Refused(Refusal::PackedIndices(names::PACKED_LENGTH_SITE));
-            }
-            let spare = padding(bytes, count * width as u64);
-            if spare != 0 {
-                Checked::Refused(Refusal::PackedIndices(names::PADDING_BIT_SITE))
-            } else if output.len() as u64 != count {
-                Checked::Refused(Refusal::SliceLength(names::OUTPUT_SLICE))
-            } else {
-                read_indices(bytes, width, output);
-                Checked::Accepted
-            }
-        }
+    let len = packed_size(count, width)?;
+    if bytes.len() as u64 != len {
+        return Err(Refusal::PackedIndices(PackingSite::Length));
     }
+    let spare = padding(bytes, count * width as u64);
+    if spare != 0 {
+        return Err(Refusal::PackedIndices(PackingSite::PaddingBit));
+    }
+    if output.len() as u64 != count {
+        return Err(Refusal::SliceLength(Slice::Output));
+    }
+    read_indices(bytes, width, output);
+    Ok(())
 }

@@ -1,15 +1,15 @@
 -- Laws of the frame: little-endian numbers there and back, the lengths, which answer parsing gives, and that parsing
 -- and writing undo each other. Assumes nothing.
 use mathlib.Core.Path.{◌≡◌, refl, sym, ap, ◌∙◌, subst}
-use mathlib.Core.Bool.{true, false}
+use mathlib.Core.Bool.{true}
 use mathlib.Core.List.{List, [], ◌∷◌, ◌++◌}
 use Prim.Native.Nat.{ℕ, zero, suc, ◌+◌, ◌*◌, ◌-◌, ◌/◌, ◌%◌, ◌^◌, ◌≤◌, ◌<◌}
 use native.Mathlib.Nat.{div-add-mod}
 use native.Mathlib.Omega.{arith}
 use lib.ListN.{length, get_or, take, drop, length-append, length-drop, take-append-drop}
 use lib.Seq.{drop-cons, drop_at, take-append_seam, length-take-le, take-add, get_or-take, get_or-drop}
-use borrow.Author.Tests.{ltb-false, eqb-true, not-false, lt-ltb, le-ltb, eq-eqb, ne_eqb}
-use Rattle.error.specs.Numbers.{completed, refused, whole}
+use borrow.Author.Tests.{ltb-false, eqb-true, not-false, le-ltb, eq-eqb}
+use Rattle.error.specs.Numbers.{completed}
 use Rattle.error.proofs.Outcomes.{both, completed_same, passed}
 use Rattle.bitpack.specs.Layout.{bytes_for}
 use Rattle.compact.specs.Frame.{bytes_of, number_of, header, frame_of, Parts, magic_in, count_in, norm_length_in, parts_in, parsed, WellFormed}
@@ -57,31 +57,9 @@ count_bytes bs h = rw (drop-cons bs 5 0 (omega arith), drop-cons bs 6 0 (omega a
 pub norm_length_bytes : (bs : List ℕ) → 11 ≤ length bs → take 2 (drop 9 bs) ≡ get_or bs 9 0 ∷ get_or bs 10 0 ∷ []
 norm_length_bytes bs h = rw (drop-cons bs 9 0 (omega arith), drop-cons bs 10 0 (omega arith))
 
--- ---- the answers of parsing
+-- ---- what parsing asks
 
 module _ (bs : List ℕ) where
-  pub parsed_short : length bs < 11 → parsed bs ≡ refused 8 (whole 1 ∷ [])
-  unfolding parsed
-  parsed_short h = rw (lt-ltb (length bs) 11 h)
-
-  pub parsed_magic : 11 ≤ length bs → magic_in bs ≡ false → parsed bs ≡ refused 8 (whole 2 ∷ [])
-  unfolding parsed
-  parsed_magic h m = rw (le-ltb (length bs) 11 h, m)
-
-  pub parsed_version : 11 ≤ length bs → magic_in bs ≡ true → (get_or bs 3 0 ≡ 1 → ⊥) → parsed bs ≡ refused 8 (whole 3 ∷ [])
-  unfolding parsed
-  parsed_version h m v = rw (le-ltb (length bs) 11 h, m, ne_eqb (get_or bs 3 0) 1 v)
-
-  pub parsed_norm : 11 ≤ length bs → magic_in bs ≡ true → get_or bs 3 0 ≡ 1 → length bs < 11 + norm_length_in bs → parsed bs ≡ refused 8 (whole 4 ∷ [])
-  unfolding parsed
-  parsed_norm h m v n = rw (le-ltb (length bs) 11 h, m, v, lt-ltb (length bs) (11 + norm_length_in bs) n)
-
-  pub parsed-length : 11 ≤ length bs → magic_in bs ≡ true → get_or bs 3 0 ≡ 1 → 11 + norm_length_in bs ≤ length bs
-      → (length bs - (11 + norm_length_in bs) ≡ bytes_for (count_in bs * get_or bs 4 0) → ⊥) → parsed bs ≡ refused 8 (whole 5 ∷ [])
-  unfolding parsed
-  parsed-length h m v n s =
-      rw (le-ltb (length bs) 11 h, m, v, le-ltb (length bs) (11 + norm_length_in bs) n, ne_eqb (length bs - (11 + norm_length_in bs)) (bytes_for (count_in bs * get_or bs 4 0)) s)
-
   pub parsed_whole : WellFormed bs → parsed bs ≡ completed (parts_in bs)
   unfolding parsed
   parsed_whole w =

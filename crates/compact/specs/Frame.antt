@@ -1,13 +1,12 @@
 -- The compact frame, from its layout: 0x46 0x42 0x31 0x01, width (1 byte), block count
 -- (4), norm length (2), all little-endian, then the norm and the packed indices. Bytes
 -- are numbers below 256. Definitions only; their laws are in proofs/FrameLaws.antt.
-use Rattle.std.specs.Prelude.{ℕ, zero, suc, ◌+◌, ◌*◌, ◌-◌, ◌/◌, ◌%◌, ◌≤◌, ◌≡◌, Bool, true, cond, not, ◌&&◌, List, [], ◌∷◌, ◌++◌, ltb, eqb, length, get_or, take, drop}
+use Rattle.std.specs.Prelude.{ℕ, zero, suc, ◌+◌, ◌*◌, ◌-◌, ◌/◌, ◌%◌, ◌≤◌, ◌≡◌, Bool, true, cond, not, ◌&&◌, List, [], ◌∷◌, ◌++◌, ltb, eqb, length, get_or, take, drop, Result, Ok, Err}
 use Rattle.error.specs.Names.{frame_magic_site, frame_version_site, index_length_site, norm_cut_off_site, norm_slice, output_slice, short_frame_site}
+use Rattle.error.specs.declared.Refusal.{Refusal}
 use Rattle.error.specs.Numbers.{Outcome, completed, refused, whole, refusal}
 use Rattle.bitpack.specs.Layout.{bytes_for}
 use Rattle.compact.specs.declared.CompactFrame.{CompactFrame}
-use Rattle.compact.specs.declared.Parsed.{Parsed}
-use Rattle.compact.specs.declared.Parsed.TheVariants.{Frame, Refused}
 
 -- the n bytes of a number, lowest first
 unfoldable pub bytes_of : ℕ → ℕ → List ℕ
@@ -84,12 +83,12 @@ abbrev pub parts_of : List ℕ → CompactFrame → Parts
 parts_of bs f = parts_with bs f.width f.block_count f.norm_len
 
 -- the answer of parsing, as an outcome
-abbrev pub outcome_of : List ℕ → Parsed → Outcome Parts
-outcome_of bs (Frame f) = completed (parts_of bs f)
-outcome_of bs (Refused r) = refusal r
+abbrev pub outcome_of : List ℕ → Result CompactFrame Refusal → Outcome Parts
+outcome_of bs (Ok f) = completed (parts_of bs f)
+outcome_of bs (Err r) = refusal r
 
 -- the norm of a parsed frame lies within the caller's bytes (where
 -- no index follows, the parts alone would not fix its length)
-abbrev pub Within : List ℕ → Parsed → Type 0
-Within bs (Frame f) = 11 + f.norm_len ≤ length bs
-Within bs (Refused r) = Unit
+abbrev pub Within : List ℕ → Result CompactFrame Refusal → Type 0
+Within bs (Ok f) = 11 + f.norm_len ≤ length bs
+Within bs (Err r) = Unit

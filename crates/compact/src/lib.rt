@@ -2,15 +2,17 @@
 #![tactic(auto)]
 
 ghost use Rattle.std.specs.Prelude.{◌≡◌, ◌++◌, ◌+◌, ◌*◌, ◌≤◌, ◌<◌, length, take, drop};
-ghost use Rattle.error.specs.Numbers.{checked, if_completed};
+ghost use Rattle.error.specs.Numbers.{outcome, if_completed};
 ghost use Rattle.bitpack.specs.Layout.{bytes_for};
 ghost use Rattle.compact.specs.Frame.{header, frame_of, magic_in, count_in, norm_length_in};
 ghost use Rattle.compact.specs.Frame.{parsed, writing, outcome_of, Within};
 
-use error::{Checked, Refusal, names};
+use error::{FrameSite, Refusal, Slice};
 
 // The bytes before the norm.
 const HEADER_LENGTH: usize = 11;
+
+const VERSION: u8 = 1;
 
 // A parsed header. The norm and the indices are parts of the bytes that it was parsed from: norm_part, index_part.
 #[derive(Clone, Copy)]
@@ -18,12 +20,6 @@ pub struct CompactFrame {
     pub width: u8,
     pub block_count: u32,
     pub norm_len: u16,
-}
-
-#[derive(Clone, Copy)]
-pub enum Parsed {
-    Frame(CompactFrame),
-    Refused(Refusal),
 }
 
 // Copies part into output from the place at on. Public only for the encoder's crate.
@@ -34,97 +30,71 @@ pub fn write_part(part: &[u8], output: &mut [u8], at: usize)
         ++ part.now
         ++ drop (at + length part.now) output.old }
 {
-    let mut i = 0;
-    while i < part.len() {
-        output[at + i] = part[i];
-        i += 1;
-    }
+    output[at..at + part.len()].copy_from_slice(part);
 }
 
 // Writes the first 11 bytes of a frame. Public only for the encoder's crate, which writes its frame in place.
+#[tactic(auto, unfolding(crate::specs::Frame::header, crate::specs::Frame::bytes_of))]
 pub fn write_header(width: u8, count: u32, norm_len: u16, output: &mut [u8])
     requires { 11 ≤ length output.old }
     ensures { output.new ≡ header width count norm_len ++ drop 11 output.old }
 {
-    let count1 = count / 256;
-    let count2 = count1 / 256;
-    let count3 = count2 / 256;
+    let [count0, count1, count2, count3] = count.to_le_bytes();
+    let [norm_len0, norm_len1] = norm_len.to_le_bytes();
     let head = [
-        0x46,
-        0x42,
-        0x31,
-        0x01,
-        width,
-        (count % 256) as u8,
-        (count1 % 256) as u8,
-        (count2 % 256) as u8,
-        (count3 % 256) as u8,
-        (norm_len % 256) as u8,
-        (norm_len / 256 % 256) as u8,
+        b'F', b'B', b'1', VERSION, width, count0, count1, count2, count3, norm_len0, norm_len1,
     ];
     write_part(&head, output, 0);
 }
 
 // Writes a whole frame; output must be exactly as long as it.
+#[tactic(auto, unfolding(crate::specs::Frame::writing))]
 pub fn write_compact(
     width: u8,
     count: u32,
     norm: &[u8],
     indices: &[u8],
     output: &mut [u8],
-) -> Checked
+) -> Result<(), Refusal>
     ensures { let o = writing norm.now indices.now output.old in
-        (checked result ≡ o)
+        (outcome result ≡ o)
         × (output.new
         ≡ if_completed o (frame_of width count norm.now indices.now) output.old) }
 {
-    let norm_len = norm.len();
-    if 65535 < norm_len {
-        return Checked::Refused(Refusal::SliceLength(names::NORM_SLICE));
-    }
-    let start = HEADER_LENGTH + norm_len;
+    let Ok(norm_len) = u16::try_from(norm.len()) else {
+        return Err(Refusal::SliceLength(Slice::Norm));
+    };
+    let start = HEADER_LENGTH + norm.len();
     if output.len() != start + indices.len() {
-        return Checked::Refused(Refusal::SliceLength(names::OUTPUT_SLICE));
+        return Err(Refusal::SliceLength(Slice::Output));
     }
-    write_header(width, count, norm_len as u16, output);
+    write_header(width, count, norm_len, output);
     write_part(norm, output, HEADER_LENGTH);
     write_part(indices, output, start);
-    Checked::Accepted
-}
-
-fn wide(x: u8) -> u32
-    ensures { (result ≡ x) × (result < 256) }
-{
-    x as u32
+    Ok(())
 }
 
 fn has_magic(bytes: &[u8]) -> bool
     requires { 11 ≤ length bytes.now }
     ensures { result ≡ magic_in bytes.now }
 {
-    if bytes[0] != 0x46 {
-        return false;
-    }
-    if bytes[1] != 0x42 {
-        return false;
-    }
-    bytes[2] == 0x31
+    bytes.starts_with(b"FB1")
 }
 
+#[tactic(auto, using(crate::proofs::FrameLaws::count_bytes), unfolding(crate::specs::Frame::number_of))]
 fn read_count(bytes: &[u8]) -> u32
     requires { 11 ≤ length bytes.now }
     ensures { result ≡ count_in bytes.now }
 {
-    wide(bytes[5]) + 256 * (wide(bytes[6]) + 256 * (wide(bytes[7]) + 256 * wide(bytes[8])))
+    u32::from_le_bytes([bytes[5], bytes[6], bytes[7], bytes[8]])
 }
 
+#[tactic(auto, using(crate::proofs::FrameLaws::norm_length_bytes), unfolding(crate::specs::Frame::number_of))]
 fn read_norm_len(bytes: &[u8]) -> u16
     requires { 11 ≤ length bytes.now }
     ensures { result ≡ norm_length_in bytes.now }
 {
-    let low = wide(bytes[9]);
-    let high = wide(bytes[10]);
-    (low + 256 * high) as u16
+    u16::from_le_bytes([bytes[9], bytes[10]])
 }
 
 // The bytes that count indices of width bits take.
@@ -134,31 +104,32 @@ fn packed_length(width: u8, count: u32) -> usize
     ((count as usize) * (width as usize) + 7) / 8
 }
 
-pub fn parse_compact(bytes: &[u8]) -> Parsed
+#[tactic(auto, unfolding(crate::specs::Frame::parsed))]
+pub fn parse_compact(bytes: &[u8]) -> Result<CompactFrame, Refusal>
     ensures result_value { outcome_of bytes.now result ≡ parsed bytes.now }
     ensures within { Within bytes.now result }
 {
     let len = bytes.len();
     if len < HEADER_LENGTH {
-        return Parsed::Refused(Refusal::CompactFrame(names::SHORT_FRAME_SITE));
+        return Err(Refusal::CompactFrame(FrameSite::Short));
     }
     if !has_magic(bytes) {
-        return Parsed::Refused(Refusal::CompactFrame(names::FRAME_MAGIC_SITE));
+        return Err(Refusal::CompactFrame(FrameSite::Magic));
     }
-    if bytes[3] != 0x01 {
-        return Parsed::Refused(Refusal::CompactFrame(names::FRAME_VERSION_SITE));
+    if bytes[3] != VERSION {
+        return Err(Refusal::CompactFrame(FrameSite::Version));
     }
     let bits = bytes[4];
     let block_count = read_count(bytes);
     let norm_len = read_norm_len(bytes);
     let start = HEADER_LENGTH + norm_len as usize;
     if len < start {
-        return Parsed::Refused(Refusal::CompactFrame(names::NORM_CUT_OFF_SITE));
+        return Err(Refusal::CompactFrame(FrameSite::NormCutOff));
     }
     if len - start != packed_length(bits, block_count) {
-        return Parsed::Refused(Refusal::CompactFrame(names::INDEX_LENGTH_SITE));
+        return Err(Refusal::CompactFrame(FrameSite::IndexLength));
     }
-    Parsed::Frame(CompactFrame {
+    Ok(CompactFrame {
         width: bits,
         block_count,
         norm_len,
@@ -169,18 +140,14 @@ pub fn parse_compact(bytes: &[u8]) -> Parsed
 fn tail(bytes: &[u8], at: usize) -> &[u8]
     ensures { result.now ≡ drop at bytes.now }
 {
-    if at <= bytes.len() {
-        &bytes[at..]
-    } else {
-        &bytes[bytes.len()..]
-    }
+    &bytes[at.min(bytes.len())..]
 }
 
 // The first n bytes, all if there are fewer.
 fn front(bytes: &[u8], n: usize) -> &[u8]
     ensures { result.now ≡ take n bytes.now }
 {
-    if n <= bytes.len() { &bytes[..n] } else { bytes }
+    &bytes[..n.min(bytes.len())]
 }
 
 // The norm of a parsed frame.

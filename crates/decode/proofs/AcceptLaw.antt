@@ -1,4 +1,5 @@
 -- What a frame that passes every check but the last has shown. Assumes nothing.
+use Rattle.std.specs.Prelude.{Option, None, Some}
 use mathlib.Core.Path.{◌≡◌, refl, sym, ap, ◌∙◌}
 use Prim.Native.Nat.{ℕ, ◌*◌, ◌/◌, ◌<◌}
 use mathlib.Core.Bool.{Bool, true, false, not, cond}
@@ -10,8 +11,6 @@ use borrow.Author.Tests.{not-false, ltb-true, eqb-true}
 use Rattle.error.specs.Numbers.{Outcome, completed, refused, whole, of_length}
 use Rattle.error.proofs.Outcomes.{both, never, passed}
 use Rattle.error.proofs.Refusals.{also_first, also_next}
-use Rattle.slices.specs.declared.First.{First}
-use Rattle.slices.specs.declared.First.TheVariants.{Nowhere, At}
 use Rattle.slices.proofs.FirstLaw.{none_before}
 use Rattle.bitpack.specs.Layout.{index_at}
 use Rattle.bitpack.proofs.Packing.{length-unpacked, unpacked_index}
@@ -29,9 +28,9 @@ passed_length slice want have rest h = go (eqb have want) refl h
     go true e k = (eqb-true have want e, k)
     go false e k = absurd (never 7 (whole slice ∷ []) tt k)
 
-none_offends : (n : ℕ) (indices : List ℕ) (f : First) → offending n indices f ≡ completed tt → f ≡ Nowhere
-none_offends n indices Nowhere h = refl
-none_offends n indices (At i) h = absurd (never 11 (whole (get_or indices i 0) ∷ whole n ∷ []) tt h)
+none_offends : (n : ℕ) (indices : List ℕ) (f : Option ℕ) → offending n indices f ≡ completed tt → f ≡ None
+none_offends n indices None h = refl
+none_offends n indices (Some i) h = absurd (never 11 (whole (get_or indices i 0) ∷ whole n ∷ []) tt h)
 
 -- ---- every check but the last
 pub record Readable (c : DecodeCall) (parts : Parts) : Type 0 where

@@ -1,5 +1,6 @@
 -- The decoder's work step by step: gathered, rotated back, scaled,
 -- copied out, it is what the definition says. Assumes nothing.
+use Rattle.std.specs.Prelude.{None}
 use mathlib.Core.Path.{◌≡◌, sym, ap, ◌∙◌, subst}
 use Prim.Native.Nat.{ℕ, ◌+◌, ◌<◌}
 use native.Mathlib.Nat.{le_of_eq}
@@ -12,7 +13,6 @@ use lib.Seq.{get_or-append-add}
 use lib.Ieee.{Float, nan, inf, fin, binary32, binary64, mul, fits, is_nan}
 use lib.Ieee.Fits.{and_i}
 use lib.Ieee.Scale.{finite}
-use Rattle.slices.specs.declared.First.TheVariants.{Nowhere}
 use Rattle.slices.specs.First.{first_where}
 use Rattle.slices.specs.Lists.{tabulate, patched}
 use Rattle.slices.proofs.ListLaw.{patched_inside}
@@ -69,7 +69,7 @@ module _ (d k : ℕ) (matrix codewords : List Float) (indices : List ℕ) (norm 
     copied = tabulate_ext d (λ i. get_or w₃ (d + i) nan) (decoded_at d k matrix codewords indices norm) kept
 
     -- where all of it is finite, binary32 holds all of it
-    pub copyable : first_not_finite (decoded d k matrix codewords indices norm) ≡ Nowhere → (i : ℕ) → i < d → Binary32 (get_or w₃ (d + i) nan)
+    pub copyable : first_not_finite (decoded d k matrix codewords indices norm) ≡ None → (i : ℕ) → i < d → Binary32 (get_or w₃ (d + i) nan)
     unfolding decoded_at
     copyable e i l =
         let g : ℕ → Float = decoded_at d k matrix codewords indices norm in

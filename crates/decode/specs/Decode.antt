@@ -1,12 +1,10 @@
 -- What decoding a frame comes to: document 01's checks in their order, and the values that indices and norm stand for.
 -- Definitions only. d is the ambient dimension, k the block dimension, n the codebook size.
-use Rattle.std.specs.Prelude.{ℕ, ◌*◌, ◌/◌, ◌%◌, false, not, ◌&&◌, cond, List, [], ◌∷◌, ltb, eqb, pos, length, get_or, Float}
+use Rattle.std.specs.Prelude.{ℕ, ◌*◌, ◌/◌, ◌%◌, false, not, ◌&&◌, cond, List, [], ◌∷◌, ltb, eqb, pos, length, get_or, Float, Option, None, Some}
 use Rattle.std.specs.Float.{nan, fin, binary32, binary64}
 use Rattle.std.specs.Float.Ieee.{mul}
 use Rattle.error.specs.Names.{codewords_slice, float_work_slice, matrix_slice, output_slice, padding_bit_site}
 use Rattle.error.specs.Numbers.{Outcome, completed, refused, whole, and_then, also, of_length}
-use Rattle.slices.specs.declared.First.{First}
-use Rattle.slices.specs.declared.First.TheVariants.{Nowhere, At}
 use Rattle.slices.specs.First.{first_where}
 use Rattle.slices.specs.Lists.{tabulate}
 use Rattle.slices.specs.Limit.{first_outside, bounded, first_not_finite}
@@ -98,9 +96,9 @@ unpadded parts =
     (completed tt)
 
 -- 11: the first index that is not below n
-abbrev pub offending : ℕ → List ℕ → First → Outcome Unit
-offending n indices Nowhere = completed tt
-offending n indices (At i) = refused 11 (whole (get_or indices i 0) ∷ whole n ∷ [])
+abbrev pub offending : ℕ → List ℕ → Option ℕ → Outcome Unit
+offending n indices None = completed tt
+offending n indices (Some i) = refused 11 (whole (get_or indices i 0) ∷ whole n ∷ [])
 
 abbrev pub below : ℕ → List ℕ → Outcome Unit
 below n indices = offending n indices (first_where (λ i. not (ltb (get_or indices i 0) n)) (length indices))
@@ -114,9 +112,9 @@ unfoldable pub indexed : ℕ → ℕ → ℕ → Parts → Outcome Unit
 indexed bits blocks n parts = also (headed bits blocks parts) (also (unpadded parts) (below n (indices_of parts)))
 
 -- 12: the first value that is not finite
-abbrev pub unless : List Float → First → Outcome (List Float)
-unless xs Nowhere = completed xs
-unless xs (At place) = refused 12 (whole place ∷ [])
+abbrev pub unless : List Float → Option ℕ → Outcome (List Float)
+unless xs None = completed xs
+unless xs (Some place) = refused 12 (whole place ∷ [])
 
 abbrev pub only_finite : List Float → Outcome (List Float)
 only_finite xs = unless xs (first_not_finite xs)

@@ -6,23 +6,20 @@ ghost use Rattle.std.specs.Prelude.{◌≡◌, ℕ, ◌+◌, ◌*◌, ◌≤◌,
 ghost use Rattle.std.specs.Float.{nan, binary32, binary64};
 ghost use Rattle.std.specs.Float.Ieee.{mul};
 ghost use Rattle.std.specs.Float.Ieee.Scale.{finite};
-ghost use Rattle.error.specs.Numbers.{checked, completed, if_completed, accepted, contents};
+ghost use Rattle.error.specs.Numbers.{outcome, completed, if_completed, accepted, contents};
 ghost use Rattle.ieee.specs.Sum.{plus_zero};
-ghost use Rattle.slices.specs.First.{first_where, or_at};
+ghost use Rattle.slices.specs.First.{first_where};
 ghost use Rattle.slices.specs.Lists.{tabulate, patched};
 ghost use Rattle.narrow.specs.Pack.{narrow_to};
 ghost use Rattle.bitpack.specs.Layout.{index_at, unpacked_indices};
 ghost use Rattle.compact.specs.Frame.{parsed, parts_of};
-ghost use Rattle.norm.specs.Norm.{value_of};
 ghost use Rattle.decode.specs.Work.{Binary32, Reconstructible};
 ghost use Rattle.decode.specs.Decode.{rotated_at, decoded, lengths, values, below, indexed, only_finite, decode_call, readable, decodable, decoding};
 
 use bitpack::BitReader;
-use compact::{CompactFrame, Parsed};
-use error::{Checked, Refusal, names};
-use norm::NormValue;
+use compact::CompactFrame;
+use error::{PackingSite, Refusal, Slice};
 use profile::FibQuantProfile;
-use slices::First;
 
 // The most that a value of the matrix may be in size: 2^20.
 const MATRIX_LIMIT: f64 = 1_048_576.0;
@@ -36,88 +33,93 @@ fn check_lengths(
     codewords: usize,
     output: usize,
     work: usize,
-) -> Checked
+) -> Result<(), Refusal>
     requires { (d ≤ 4096) × (n * k ≤ 67108864) }
-    ensures { checked result ≡ lengths d k n matrix codewords output work }
+    ensures { outcome result ≡ lengths d k n matrix codewords output work }
 {
     if matrix != d * d {
-        return Checked::Refused(Refusal::SliceLength(names::MATRIX_SLICE));
+        return Err(Refusal::SliceLength(Slice::Matrix));
     }
     if codewords != n * k {
-        return Checked::Refused(Refusal::SliceLength(names::CODEWORDS_SLICE));
+        return Err(Refusal::SliceLength(Slice::Codewords));
     }
     if output != d {
-        return Checked::Refused(Refusal::SliceLength(names::OUTPUT_SLICE));
+        return Err(Refusal::SliceLength(Slice::Output));
     }
     if work != 2 * d {
-        return Checked::Refused(Refusal::SliceLength(names::FLOAT_WORK_SLICE));
+        return Err(Refusal::SliceLength(Slice::FloatWork));
     }
-    Checked::Accepted
+    Ok(())
 }
 
 // Public only for the encoder's crate: the codewords finite, and the matrix within its limit.
-pub fn check_values(matrix: &[f64], codewords: &[f32]) -> Checked
-    ensures { checked result ≡ values matrix.now codewords.now }
+#[tactic(auto, unfolding(crate::specs::Decode::values))]
+pub fn check_values(matrix: &[f64], codewords: &[f32]) -> Result<(), Refusal>
+    ensures { outcome result ≡ values matrix.now codewords.now }
 {
-    let bad = slices::first_not_finite(codewords);
-    if let First::At(place) = bad {
-        return Checked::Refused(Refusal::OutOfBounds {
-            slice: names::CODEWORDS_SLICE,
+    if let Some(place) = slices::first_not_finite(codewords) {
+        return Err(Refusal::OutOfBounds {
+            slice: Slice::Codewords,
             place: place as u64,
         });
     }
-    let bad = slices::first_outside(matrix, MATRIX_LIMIT);
-    if let First::At(place) = bad {
-        return Checked::Refused(Refusal::OutOfBounds {
-            slice: names::MATRIX_SLICE,
+    if let Some(place) = slices::first_outside(matrix, MATRIX_LIMIT) {
+        return Err(Refusal::OutOfBounds {
+            slice: Slice::Matrix,
             place: place as u64,
         });
     }
-    Checked::Accepted
+    Ok(())
 }
 
 // The first of the packed indices that is not below n is refused.
 // Nothing is kept of the others: there is no room for them.
-fn check_below(indices: &[u8], width: u8, count: usize, n: u32) -> Checked
+fn check_below(indices: &[u8], width: u8, count: usize, n: u32) -> Result<(), Refusal>
     requires { (width ≤ 32) × (count * width ≤ 8 * length indices.now) }
-    ensures { checked result ≡ below n (unpacked_indices indices.now count width) }
+    ensures { outcome result ≡ below n (unpacked_indices indices.now count width) }
 {
     let mut reader = BitReader::new();
-    let mut i = 0usize;
-    while i < count {
+    for _i in 0..count {
         let pulled = reader.pull(indices, width);
         let index = pulled.value;
         if n <= index {
-            return Checked::Refused(Refusal::IndexOutOfRange { index, bound: n });
+            return Err(Refusal::IndexOutOfRange { index, bound: n });
         }
         reader = pulled.next;
-        i += 1usize;
     }
-    Checked::Accepted
+    Ok(())
 }
 
 // The frame's header against the profile's numbers, its padding bits, and its indices.
-fn check_indices(bits: u8, blocks: u32, n: u32, bytes: &[u8], frame: CompactFrame) -> Checked
+#[tactic(auto, unfolding(crate::specs::Decode::indexed))]
+fn check_indices(
+    bits: u8,
+    blocks: u32,
+    n: u32,
+    bytes: &[u8],
+    frame: CompactFrame,
+) -> Result<(), Refusal>
     requires { (bits ≤ 32) × (parsed bytes.now ≡ completed (parts_of bytes.now frame)) }
-    ensures { checked result ≡ indexed bits blocks n (parts_of bytes.now frame) }
+    ensures { outcome result ≡ indexed bits blocks n (parts_of bytes.now frame) }
 {
     let width = frame.width;
     let count = frame.block_count;
     if width != bits {
-        return Checked::Refused(Refusal::CodeHeader);
+        return Err(Refusal::CodeHeader);
     }
     if count != blocks {
-        return Checked::Refused(Refusal::CodeHeader);
+        return Err(Refusal::CodeHeader);
     }
     let indices = compact::index_part(bytes, frame);
     let spare = bitpack::padding(indices, count as u64 * width as u64);
     if spare != 0 {
-        return Checked::Refused(Refusal::PackedIndices(names::PADDING_BIT_SITE));
+        return Err(Refusal::PackedIndices(PackingSite::PaddingBit));
     }
     check_below(indices, width, count as usize, n)
 }
 
 // Every check of a parsed frame, and the value of its norm.
+#[tactic(auto, unfolding(crate::specs::Decode::readable))]
 fn read_code(
     profile: FibQuantProfile,
     schema: &[u8],
@@ -129,21 +131,18 @@ fn read_code(
     frame: CompactFrame,
     output: usize,
     work: usize,
-) -> NormValue
+) -> Result<f64, Refusal>
     requires { parsed bytes.now ≡ completed (parts_of bytes.now frame) }
     ensures { let c = decode_call profile schema.now rotation_algorithm.now log2
         matrix.now codewords.now bytes.now output work in
-        value_of result ≡ readable c (parts_of bytes.now frame) }
+        outcome result ≡ readable c (parts_of bytes.now frame) }
 {
-    let valid = profile.validate(schema, rotation_algorithm, log2);
-    if let Checked::Refused(refusal) = valid {
-        return NormValue::Refused(refusal);
-    }
+    profile.validate(schema, rotation_algorithm, log2)?;
     let d = profile.ambient_dim;
     let k = profile.block_dim;
     let n = profile.codebook_size;
     let bits = profile.wire_index_bits;
-    let sized = check_lengths(
+    check_lengths(
         d as usize,
         k as usize,
         n as usize,
@@ -151,18 +150,9 @@ fn read_code(
         codewords.len(),
         output,
         work,
-    );
-    if let Checked::Refused(refusal) = sized {
-        return NormValue::Refused(refusal);
-    }
-    let bounded = check_values(matrix, codewords);
-    if let Checked::Refused(refusal) = bounded {
-        return NormValue::Refused(refusal);
-    }
-    let indexed = check_indices(bits, d / k, n, bytes, frame);
-    if let Checked::Refused(refusal) = indexed {
-        return NormValue::Refused(refusal);
-    }
+    )?;
+    check_values(matrix, codewords)?;
+    check_indices(bits, d / k, n, bytes, frame)?;
     norm::decode_norm(compact::norm_part(bytes, frame))
 }
 
@@ -174,49 +164,27 @@ fn gather(codewords: &[f32], k: usize, indices: &[u8], width: u8, count: usize, 
         (rotated_at k codewords.now (unpacked_indices indices.now count width)) }
 {
     let mut reader = BitReader::new();
-    let mut i = 0usize;
-    let mut at = 0usize;
-    while i < count {
+    for i in 0..count {
         let pulled = reader.pull(indices, width);
         let index = pulled.value;
-        codebook::widen_row(codewords, index as usize * k, k, work, at);
+        codebook::widen_row(codewords, index as usize * k, k, work, i * k);
         reader = pulled.next;
-        at += k;
-        i += 1usize;
-    }
-}
-
-// The place found earlier, or else this one where it fails.
-fn or_at(found: First, place: usize, fails: bool) -> First
-    ensures { result ≡ or_at found place fails }
-{
-    match found {
-        First::At(earlier) => First::At(earlier),
-        First::Nowhere => {
-            if fails {
-                First::At(place)
-            } else {
-                First::Nowhere
-            }
-        }
     }
 }
 
 // Each value of the second half of the work times the norm, rounded to binary32; answers the first that is not finite.
-fn scale(norm: f64, work: &mut [f64], d: usize) -> First
+fn scale(norm: f64, work: &mut [f64], d: usize) -> Option<usize>
     requires { length work.old ≡ d + d }
     ensures value { result ≡ first_where
         (λ i. not (finite (narrow_to binary32 (mul binary64 (get_or work.old (d + i) nan) norm)))) d }
     ensures work_after { work.new ≡ patched work.old d d
         (λ i. narrow_to binary32 (mul binary64 (get_or work.old (d + i) nan) norm)) }
 {
-    let mut bad = First::Nowhere;
-    let mut i = 0usize;
-    while i < d {
+    let mut bad = None;
+    for i in 0..d {
         let x = narrow::f64_to_f32(work[d + i] * norm);
         work[d + i] = narrow::f32_to_f64(x);
-        bad = or_at(bad, i, !ieee::is_finite_f32(x));
-        i += 1usize;
+        bad = bad.or((!ieee::is_finite_f32(x)).then_some(i));
     }
     bad
 }
@@ -229,10 +197,8 @@ fn copy_out(work: &[f64], output: &mut [f32])
         (λ i. get_or work.now (length output.old + i) nan) }
 {
     let d = output.len();
-    let mut i = 0usize;
-    while i < d {
-        output[i] = work[d + i] as f32;
-        i += 1usize;
+    for (i, value) in output.iter_mut().enumerate() {
+        *value = work[d + i] as f32;
     }
 }
 
@@ -248,26 +214,25 @@ fn reconstruct(
     norm: f64,
     output: &mut [f32],
     work: &mut [f64],
-) -> Checked
+) -> Result<(), Refusal>
     requires { Reconstructible (length output.old) k (length matrix.now) (length codewords.now)
         indices.now width count (length work.old) }
     ensures { let answer = only_finite (decoded (length output.old) k
         matrix.now codewords.now (unpacked_indices indices.now count width) norm) in
-        (checked result ≡ accepted answer)
+        (outcome result ≡ accepted answer)
         × (output.new ≡ contents answer output.old)
         × (work.new ≡ replicate (length work.old) plus_zero) }
 {
     let d = output.len();
     gather(codewords, k, indices, width, count, work);
     rotation::rotate_back_within(matrix, work, d);
-    let bad = scale(norm, work, d);
-    if let First::At(place) = bad {
+    if let Some(place) = scale(norm, work, d) {
         slices::zero_f64(work);
-        return Checked::Refused(Refusal::NonFiniteInput(place as u64));
+        return Err(Refusal::NonFiniteInput(place as u64));
     }
     copy_out(work, output);
     slices::zero_f64(work);
-    Checked::Accepted
+    Ok(())
 }
 
 // The vector that a frame stands for. A refusal leaves both buffers as
@@ -282,51 +247,41 @@ pub fn decode(
     bytes: &[u8],
     output: &mut [f32],
     work: &mut [f64],
-) -> Checked
+) -> Result<(), Refusal>
     ensures { let c = decode_call profile schema.now rotation_algorithm.now log2
         matrix.now codewords.now bytes.now
         (length output.old) (length work.old) in
-        (checked result ≡ accepted (decoding c))
+        (outcome result ≡ accepted (decoding c))
         × (output.new ≡ contents (decoding c) output.old)
         × (work.new ≡ if_completed (decodable c)
         (replicate (length work.old) plus_zero) work.old) }
 {
-    let parsed = compact::parse_compact(bytes);
-    match parsed {
-        Parsed::Refused(refusal) => Checked::Refused(refusal),
-        Parsed::Frame(frame) => {
-            let code = read_code(
-                profile,
-                schema,
-                rotation_algorithm,
-                log2,
-                matrix,
-                codewords,
-                bytes,
-                frame,
-                output.len(),
-                work.len(),
-            );
-            match code {
-                NormValue::Refused(refusal) => Checked::Refused(refusal),
-                NormValue::Value(norm) => {
-                    let k = profile.block_dim;
-                    let width = frame.width;
-                    let count = frame.block_count;
-                    let indices = compact::index_part(bytes, frame);
-                    reconstruct(
-                        matrix,
-                        codewords,
-                        k as usize,
-                        indices,
-                        width,
-                        count as usize,
-                        norm,
-                        output,
-                        work,
-                    )
-                }
-            }
-        }
-    }
+    let frame = compact::parse_compact(bytes)?;
+    let norm = read_code(
+        profile,
+        schema,
+        rotation_algorithm,
+        log2,
+        matrix,
+        codewords,
+        bytes,
+        frame,
+        output.len(),
+        work.len(),
+    )?;
+    let k = profile.block_dim;
+    let width = frame.width;
+    let count = frame.block_count;
+    let indices = compact::index_part(bytes, frame);
+    reconstruct(
+        matrix,
+        codewords,
+        k as usize,
+        indices,
+        width,
+        count as usize,
+        norm,
+        output,
+        work,
+    )
 }

@@ -5,9 +5,10 @@ use Prim.Native.Nat.{ℕ, ◌+◌, ◌*◌, ◌-◌, ◌^◌, ◌≤◌, ◌<◌
 use native.Mathlib.Nat.{add-zero, add-mul, mul-le-mul_right}
 use native.Mathlib.Omega.{arith}
 use mathlib.Core.Bool.{cond}
-use mathlib.Core.List.{List}
-use lib.ListN.{length, take, drop}
+use mathlib.Core.List.{List, [], ◌∷◌}
+use lib.ListN.{length, get_or, take, drop}
 use lib.Ieee.{Float}
+use Rattle.std.specs.Prelude.{count_by}
 use Rattle.slices.specs.First.{count_where}
 use Rattle.slices.proofs.CountLaw.{four_counted}
 use Rattle.bitpack.specs.declared.BitWriter.{BitWriter}
@@ -15,13 +16,16 @@ use Rattle.bitpack.specs.Cursor.{WriterAt, Pushable}
 use Rattle.lloyd_search.specs.declared.Choice.{Choice}
 use Rattle.lloyd_search.specs.Distance.{row_of}
 use Rattle.lloyd_search.specs.Choice.{chosen, mark_of}
-use Rattle.lloyd_search_f32.specs.declared.FourChoices.{FourChoices}
-use Rattle.lloyd_search_f32.specs.Four.{FourChosen}
+use Rattle.lloyd_search_f32.specs.Four.{four_chosen}
 use Rattle.lloyd_search_f32.proofs.FourBlocks.{part_four_chosen}
 use Rattle.encode.specs.Encode.{index_for, tied_for}
 use Rattle.encode.specs.Work.{Searchable}
 use Rattle.encode.proofs.EncodeLaw.{mark_counted}
 use Rattle.encode.proofs.IndexLaw.{packing, Pushes, index_small, index_pushable, index_pushed}
+
+-- the tied of four choices
+four_tied : (a b c d : Choice) → count_by mark_of (a ∷ b ∷ c ∷ d ∷ []) ≡ cond (mark_of a) 1 0 + cond (mark_of b) 1 0 + cond (mark_of c) 1 0 + cond (mark_of d) 1 0
+four_tied a b c d = omega arith
 
 module _ {count k n width : ℕ} (codewords xs : List Float) (old : List ℕ) (s : Searchable count k n width (length xs) (length codewords) (length old)) (turn : ℕ) (among : turn * 4 + 4 ≤ count)
     (at : ℕ) (is : at ≡ turn * 4 * k) where
@@ -50,74 +54,89 @@ module _ {count k n width : ℕ} (codewords xs : List Float) (old : List ℕ) (s
       does = index_pushed codewords xs s (block m) index i (omega (arith, among)) (block (m + 1)) (omega arith) w
 
   -- with what is found
-  module _ (r : FourChoices) (h : FourChosen k n (row_of k codewords) (row_of k (take (at + 4 * k - at) (drop at xs))) r) where
+  module _ (r : List Choice) (h : r ≡ four_chosen k n (row_of k codewords) (row_of k (take (at + 4 * k - at) (drop at xs)))) where
     -- the codewords of the definition
-    found : FourChosen k n (row_of k codewords) (λ m. row_of k xs (block m)) r
-    found = part_four_chosen (row_of k codewords) xs n (turn * 4) k at r is h
-
-    first : r.first.found.index ≡ index_for k n codewords xs (block 0)
-    first = ap (λ (c : Choice). c.found.index) found.for_first
-
-    second : r.second.found.index ≡ index_for k n codewords xs (block 1)
-    second = ap (λ (c : Choice). c.found.index) found.for_second
-
-    third : r.third.found.index ≡ index_for k n codewords xs (block 2)
-    third = ap (λ (c : Choice). c.found.index) found.for_third
-
-    fourth : r.fourth.found.index ≡ index_for k n codewords xs (block 3)
-    fourth = ap (λ (c : Choice). c.found.index) found.for_fourth
-
-    pub first_small : r.first.found.index < 2 ^ 32
-    first_small = small 0 _ first
-
-    pub second_small : r.second.found.index < 2 ^ 32
-    second_small = small 1 _ second
-
-    pub third_small : r.third.found.index < 2 ^ 32
-    third_small = small 2 _ third
-
-    pub fourth_small : r.fourth.found.index < 2 ^ 32
-    fourth_small = small 3 _ fourth
+    found : r ≡ four_chosen k n (row_of k codewords) (λ m. row_of k xs (block m))
+    found = h ∙ part_four_chosen (row_of k codewords) xs n (turn * 4) k at is
 
     -- the tied blocks, with those of the turn
-    pub counted : (tied_blocks more : ℕ) → tied_blocks ≡ count_where (tied_for k n codewords xs) (turn * 4)
-        → more ≡ cond (mark_of r.first) 1 0 + cond (mark_of r.second) 1 0 + cond (mark_of r.third) 1 0 + cond (mark_of r.fourth) 1 0
-        → tied_blocks + more ≡ count_where (tied_for k n codewords xs) (turn * 4 + 4)
+    pub counted : (tied_blocks more : ℕ) → tied_blocks ≡ count_where (tied_for k n codewords xs) (turn * 4) → more ≡ count_by mark_of r → tied_blocks + more ≡ count_where (tied_for k n codewords xs) (turn * 4 + 4)
     counted tied_blocks more before e =
         let t = tied_for k n codewords xs in
-        let mark : (m : ℕ) (c : Choice) → c ≡ chosen k n (row_of k codewords) (row_of k xs (block m)) → ◌≡◌ {A = ℕ} (cond (mark_of c) 1 0) (cond (t (block m)) 1 0) =
-        λ m. mark_counted k n (block m) codewords xs in
-        rw e
-        (four_counted t (turn * 4) tied_blocks _ _ _ _ before (mark 0 _ found.for_first ∙ ap (λ (m : ℕ). cond (t m) 1 0) (add-zero (turn * 4))) (mark 1 _ found.for_second) (mark 2 _ found.for_third) (mark 3 _ found.for_fourth))
+        let mark : (m : ℕ) → ◌≡◌ {A = ℕ} (cond (mark_of (chosen k n (row_of k codewords) (row_of k xs (block m)))) 1 0) (cond (t (block m)) 1 0) =
+        λ m. mark_counted k n (block m) codewords xs _ refl in
+        rw (e, found, four_tied _ _ _ _)
+        (four_counted t (turn * 4) tied_blocks _ _ _ _ before (mark 0 ∙ ap (λ (m : ℕ). cond (t m) 1 0) (add-zero (turn * 4))) (mark 1) (mark 2) (mark 3))
 
-    -- and the pushes of their indices, one after another
-    module _ {out : List ℕ} {writer : BitWriter} (w : WriterAt (packing count k n width codewords xs) (turn * 4 * width) old out writer) where
-      start : Stands 0 out writer
-      start = rw (add-zero (turn * 4)) w
+    module _ (none : Choice) where
+      -- the choice for the turn's block m, as it is read
+      abbrev pub one : ℕ → Choice
+      one m = get_or r m none
 
-      pub first_asks : Pushable out r.first.found.index width writer
-      first_asks = asks 0 _ first (omega arith) start
+      first_is : one 0 ≡ chosen k n (row_of k codewords) (row_of k xs (block 0))
+      first_is = ap (λ (l : List Choice). get_or l 0 none) found
 
-      module _ {out₁ : List ℕ} {writer₁ : BitWriter} (p₁ : Pushes r.first.found.index width out writer out₁ writer₁) where
-        after_first : Stands 1 out₁ writer₁
-        after_first = does 0 _ first (omega arith) start p₁
+      second_is : one 1 ≡ chosen k n (row_of k codewords) (row_of k xs (block 1))
+      second_is = ap (λ (l : List Choice). get_or l 1 none) found
 
-        pub second_asks : Pushable out₁ r.second.found.index width writer₁
-        second_asks = asks 1 _ second (omega arith) after_first
+      third_is : one 2 ≡ chosen k n (row_of k codewords) (row_of k xs (block 2))
+      third_is = ap (λ (l : List Choice). get_or l 2 none) found
 
-        module _ {out₂ : List ℕ} {writer₂ : BitWriter} (p₂ : Pushes r.second.found.index width out₁ writer₁ out₂ writer₂) where
-          after_second : Stands 2 out₂ writer₂
-          after_second = does 1 _ second (omega arith) after_first p₂
+      fourth_is : one 3 ≡ chosen k n (row_of k codewords) (row_of k xs (block 3))
+      fourth_is = ap (λ (l : List Choice). get_or l 3 none) found
 
-          pub third_asks : Pushable out₂ r.third.found.index width writer₂
-          third_asks = asks 2 _ third (omega arith) after_second
+      first : (one 0).found.index ≡ index_for k n codewords xs (block 0)
+      first = ap (λ (c : Choice). c.found.index) first_is
 
-          module _ {out₃ : List ℕ} {writer₃ : BitWriter} (p₃ : Pushes r.third.found.index width out₂ writer₂ out₃ writer₃) where
-            after_third : Stands 3 out₃ writer₃
-            after_third = does 2 _ third (omega arith) after_second p₃
+      second : (one 1).found.index ≡ index_for k n codewords xs (block 1)
+      second = ap (λ (c : Choice). c.found.index) second_is
 
-            pub fourth_asks : Pushable out₃ r.fourth.found.index width writer₃
-            fourth_asks = asks 3 _ fourth (omega arith) after_third
+      third : (one 2).found.index ≡ index_for k n codewords xs (block 2)
+      third = ap (λ (c : Choice). c.found.index) third_is
 
-            pub after_fourth : {out₄ : List ℕ} {writer₄ : BitWriter} → Pushes r.fourth.found.index width out₃ writer₃ out₄ writer₄ → Stands 4 out₄ writer₄
-            after_fourth p₄ = does 3 _ fourth (omega arith) after_third p₄
+      fourth : (one 3).found.index ≡ index_for k n codewords xs (block 3)
+      fourth = ap (λ (c : Choice). c.found.index) fourth_is
+
+      pub first_small : (one 0).found.index < 2 ^ 32
+      first_small = small 0 _ first
+
+      pub second_small : (one 1).found.index < 2 ^ 32
+      second_small = small 1 _ second
+
+      pub third_small : (one 2).found.index < 2 ^ 32
+      third_small = small 2 _ third
+
+      pub fourth_small : (one 3).found.index < 2 ^ 32
+      fourth_small = small 3 _ fourth
+
+      -- and the pushes of their indices, one after another
+      module _ {out : List ℕ} {writer : BitWriter} (w : WriterAt (packing count k n width codewords xs) (turn * 4 * width) old out writer) where
+        start : Stands 0 out writer
+        start = rw (add-zero (turn * 4)) w
+
+        pub first_asks : Pushable out (one 0).found.index width writer
+        first_asks = asks 0 _ first (omega arith) start
+
+        module _ {out₁ : List ℕ} {writer₁ : BitWriter} (p₁ : Pushes (one 0).found.index width out writer out₁ writer₁) where
+          after_first : Stands 1 out₁ writer₁
+          after_first = does 0 _ first (omega arith) start p₁
+
+          pub second_asks : Pushable out₁ (one 1).found.index width writer₁
+          second_asks = asks 1 _ second (omega arith) after_first
+
+          module _ {out₂ : List ℕ} {writer₂ : BitWriter} (p₂ : Pushes (one 1).found.index width out₁ writer₁ out₂ writer₂) where
+            after_second : Stands 2 out₂ writer₂
+            after_second = does 1 _ second (omega arith) after_first p₂
+
+            pub third_asks : Pushable out₂ (one 2).found.index width writer₂
+            third_asks = asks 2 _ third (omega arith) after_second
+
+            module _ {out₃ : List ℕ} {writer₃ : BitWriter} (p₃ : Pushes (one 2).found.index width out₂ writer₂ out₃ writer₃) where
+              after_third : Stands 3 out₃ writer₃
+              after_third = does 2 _ third (omega arith) after_second p₃
+
+              pub fourth_asks : Pushable out₃ (one 3).found.index width writer₃
+              fourth_asks = asks 3 _ fourth (omega arith) after_third
+
+              pub after_fourth : {out₄ : List ℕ} {writer₄ : BitWriter} → Pushes (one 3).found.index width out₃ writer₃ out₄ writer₄ → Stands 4 out₄ writer₄
+              after_fourth p₄ = does 3 _ fourth (omega arith) after_third p₄

@@ -1,14 +1,12 @@
 -- What encoding a vector comes to: document 01's checks in their order, the frame that is written, and the number of its
 -- tied blocks. Definitions only.
 -- d is the ambient dimension, k the block dimension, n the codebook size.
-use Rattle.std.specs.Prelude.{ℕ, ◌+◌, ◌*◌, ◌/◌, Bool, cond, List, [], ◌∷◌, length, get_or, Float}
+use Rattle.std.specs.Prelude.{ℕ, ◌+◌, ◌*◌, ◌/◌, Bool, cond, List, [], ◌∷◌, length, get_or, Float, Option, None, Some}
 use Rattle.std.specs.Float.{nan, binary32, binary64}
 use Rattle.std.specs.Float.Ieee.{mul, div, eq}
 use Rattle.error.specs.Names.{codewords_slice, float_work_slice, input_slice, matrix_slice, output_slice}
-use Rattle.error.specs.Numbers.{Outcome, completed, refused, refusal, whole, and_then, also, of_length}
+use Rattle.error.specs.Numbers.{Outcome, completed, refused, whole, and_then, also, of_length}
 use Rattle.ieee.specs.Sum.{plus_zero, sum_to}
-use Rattle.slices.specs.declared.First.{First}
-use Rattle.slices.specs.declared.First.TheVariants.{Nowhere, At}
 use Rattle.slices.specs.First.{count_where}
 use Rattle.slices.specs.Lists.{tabulate}
 use Rattle.narrow.specs.Pack.{narrow_to}
@@ -23,8 +21,6 @@ use Rattle.lloyd_search.specs.Nearest.{nearest, tied}
 use Rattle.slices.specs.Limit.{first_not_finite}
 use Rattle.norm.specs.Norm.{norm_bits}
 use Rattle.decode.specs.Decode.{values}
-use Rattle.encode.specs.declared.Encoded.{Encoded}
-use Rattle.encode.specs.declared.Encoded.TheVariants.{Written, Refused}
 
 -- ---- what an encoding is given, but the contents of the buffers that it writes; of these the lengths
 pub record EncodeCall : Type 0 where
@@ -119,9 +115,9 @@ lengths d k n bits matrix codewords input output work =
     (completed tt)))))
 
 -- 12: the first value of the input that is not finite
-abbrev pub finite_input : First → Outcome Unit
-finite_input Nowhere = completed tt
-finite_input (At place) = refused 12 (whole place ∷ [])
+abbrev pub finite_input : Option ℕ → Outcome Unit
+finite_input None = completed tt
+finite_input (Some place) = refused 12 (whole place ∷ [])
 
 -- 12, 13 (the norm is zero) and 10: the pattern of the norm
 unfoldable pub normed : List Float → Float → Outcome ℕ
@@ -150,7 +146,3 @@ encoding c = and_then (codable c) (λ bits. completed (frame_for c.profile c.mat
 -- the answer: every check, and the number of tied blocks
 abbrev pub counting : EncodeCall → Outcome ℕ
 counting c = and_then (codable c) (λ bits. completed (tied_blocks c.profile c.matrix c.codewords c.input))
-
-abbrev pub encoded_of : Encoded → Outcome ℕ
-encoded_of (Written number) = completed number
-encoded_of (Refused r) = refusal r

@@ -3,9 +3,9 @@
 // The entry point is `encode`, at the end.
 #![tactic(auto)]
 
-ghost use Rattle.std.specs.Prelude.{◌≡◌, cond, ◌++◌, ◌+◌, ◌*◌, ◌/◌, ◌≤◌, ◌<◌, length, get_or, drop, replicate};
+ghost use Rattle.std.specs.Prelude.{count_by, ◌≡◌, cond, ◌++◌, ◌+◌, ◌*◌, ◌/◌, ◌≤◌, ◌<◌, length, get_or, drop, replicate};
 ghost use Rattle.std.specs.Float.{nan, binary32};
-ghost use Rattle.error.specs.Numbers.{checked, if_completed, contents};
+ghost use Rattle.error.specs.Numbers.{outcome, if_completed, contents};
 ghost use Rattle.ieee.specs.Sum.{plus_zero};
 ghost use Rattle.slices.specs.First.{count_where};
 ghost use Rattle.slices.specs.Lists.{patched};
@@ -15,17 +15,13 @@ ghost use Rattle.bitpack.specs.Cursor.{WriterAt};
 ghost use Rattle.compact.specs.Frame.{bytes_of, header, frame_of};
 ghost use Rattle.lloyd_search.specs.Choice.{mark_of};
 ghost use Rattle.lloyd_search_f32.specs.Finite.{FiniteValues};
-ghost use Rattle.norm.specs.Norm.{bits_of};
-ghost use Rattle.encode.specs.Encode.{encode_call, norm_of, normalized_at, indices_for, frame_for, tied_for, tied_blocks, lengths, normed, fitting, encoding, counting, encoded_of};
+ghost use Rattle.encode.specs.Encode.{encode_call, norm_of, normalized_at, indices_for, frame_for, tied_for, tied_blocks, lengths, normed, fitting, encoding, counting};
 ghost use Rattle.encode.specs.Work.{Searchable, Writable};
 
 use bitpack::BitWriter;
-use error::{Checked, Refusal, names};
+use error::{Refusal, Slice};
 use lloyd_search::Choice;
-use lloyd_search_f32::FourChoices;
-use norm::NormBits;
 use profile::FibQuantProfile;
-use slices::First;
 
 // The lengths of matrix, codewords, input, output and float work.
 fn check_lengths(
@@ -38,26 +34,26 @@ fn check_lengths(
     input: usize,
     output: usize,
     work: usize,
-) -> Checked
+) -> Result<(), Refusal>
     requires { (d ≤ 4096) × (n * k ≤ 67108864) × (1 ≤ k) × (bits ≤ 20) }
-    ensures { checked result ≡ lengths d k n bits matrix codewords input output work }
+    ensures { outcome result ≡ lengths d k n bits matrix codewords input output work }
 {
     if matrix != d * d {
-        return Checked::Refused(Refusal::SliceLength(names::MATRIX_SLICE));
+        return Err(Refusal::SliceLength(Slice::Matrix));
     }
     if codewords != n * k {
-        return Checked::Refused(Refusal::SliceLength(names::CODEWORDS_SLICE));
+        return Err(Refusal::SliceLength(Slice::Codewords));
     }
     if input != d {
-        return Checked::Refused(Refusal::SliceLength(names::INPUT_SLICE));
+        return Err(Refusal::SliceLength(Slice::Input));
     }
     if output != 13 + (d / k * bits + 7) / 8 {
-        return Checked::Refused(Refusal::SliceLength(names::OUTPUT_SLICE));
+        return Err(Refusal::SliceLength(Slice::Output));
     }
     if work != 2 * d {
-        return Checked::Refused(Refusal::SliceLength(names::FLOAT_WORK_SLICE));
+        return Err(Refusal::SliceLength(Slice::FloatWork));
     }
-    Checked::Accepted
+    Ok(())
 }
 
 // The root of the sum of the squares.
@@ -65,30 +61,29 @@ fn l2_norm(input: &[f32]) -> f64
     ensures { result ≡ norm_of input.now }
 {
     let mut sum = 0.0;
-    let mut i = 0usize;
-    while i < input.len() {
-        let x = narrow::f32_to_f64(input[i]);
-        sum = sum + x * x;
-        i += 1usize;
+    for value in input {
+        let x = narrow::f32_to_f64(*value);
+        sum += x * x;
     }
     root::sqrt(sum)
 }
 
 // The checks of the input and of its norm, and the norm's pattern.
-fn check_norm(input: &[f32], norm: f64) -> NormBits
-    ensures { bits_of result ≡ normed input.now norm }
+#[tactic(auto, unfolding(crate::specs::Encode::normed))]
+fn check_norm(input: &[f32], norm: f64) -> Result<u16, Refusal>
+    ensures { outcome result ≡ normed input.now norm }
 {
-    let bad = slices::first_not_finite(input);
-    if let First::At(place) = bad {
-        return NormBits::Refused(Refusal::NonFiniteInput(place as u64));
+    if let Some(place) = slices::first_not_finite(input) {
+        return Err(Refusal::NonFiniteInput(place as u64));
     }
     if norm == 0.0 {
-        return NormBits::Refused(Refusal::ZeroNorm);
+        return Err(Refusal::ZeroNorm);
     }
     norm::encode_norm(norm)
 }
 
 // The checks that do not read the input: of the profile, the lengths, and the values of codewords and matrix.
+#[tactic(auto, unfolding(crate::specs::Encode::fitting))]
 fn check_call(
     profile: FibQuantProfile,
     schema: &[u8],
@@ -99,20 +94,17 @@ fn check_call(
     input: &[f32],
     output: usize,
     work: usize,
-) -> Checked
+) -> Result<(), Refusal>
     ensures { let c = encode_call profile schema.now rotation_algorithm.now log2
         matrix.now codewords.now input.now output work in
-        checked result ≡ fitting c }
+        outcome result ≡ fitting c }
 {
-    let valid = profile.validate(schema, rotation_algorithm, log2);
-    if let Checked::Refused(refusal) = valid {
-        return Checked::Refused(refusal);
-    }
+    profile.validate(schema, rotation_algorithm, log2)?;
     let d = profile.ambient_dim;
     let k = profile.block_dim;
     let n = profile.codebook_size;
     let bits = profile.wire_index_bits;
-    let sized = check_lengths(
+    check_lengths(
         d as usize,
         k as usize,
         n as usize,
@@ -122,10 +114,7 @@ fn check_call(
         input.len(),
         output,
         work,
-    );
-    if let Checked::Refused(refusal) = sized {
-        return Checked::Refused(refusal);
-    }
+    )?;
     decode::check_values(matrix, codewords)
 }
 
@@ -135,10 +124,8 @@ fn normalize(input: &[f32], norm: f64, work: &mut [f64])
     ensures { work.new
         ≡ patched work.old 0 (length input.now) (normalized_at input.now norm) }
 {
-    let mut i = 0usize;
-    while i < input.len() {
-        work[i] = narrow::f32_to_f64(input[i]) / norm;
-        i += 1usize;
+    for (i, x) in input.iter().enumerate() {
+        work[i] = narrow::f32_to_f64(*x) / norm;
     }
 }
 
@@ -148,11 +135,9 @@ fn round_half(work: &mut [f64], d: usize)
     ensures { work.new
         ≡ patched work.old d d (λ i. narrow_to binary32 (get_or work.old (d + i) nan)) }
 {
-    let mut i = 0usize;
-    while i < d {
+    for i in 0..d {
         let x = narrow::f64_to_f32(work[d + i]);
         work[d + i] = narrow::f32_to_f64(x);
-        i += 1usize;
     }
 }
 
@@ -164,15 +149,12 @@ fn count_one(choice: Choice) -> usize
 }
 
 // For how many of four blocks another codeword is as near as the one chosen.
-fn count_four(four: FourChoices) -> usize
-    ensures { result ≡ cond (mark_of four.first) 1 0 + cond (mark_of four.second) 1 0
-        + cond (mark_of four.third) 1 0 + cond (mark_of four.fourth) 1 0 }
+fn count_four(four: [Choice; 4]) -> usize
+    ensures { result ≡ count_by mark_of four }
 {
-    let first = four.first;
-    let second = four.second;
-    let third = four.third;
-    let fourth = four.fourth;
-    count_one(first) + count_one(second) + count_one(third) + count_one(fourth)
+    four.iter()
+        .filter(|choice| lloyd_search::is_tied(**choice))
+        .count()
 }
 
 // The blocks passed: the writer after their indices, and for how many of them another codeword was as near.
@@ -198,21 +180,16 @@ fn write_fours(
         (count / 4 * 4 * width) output.old output.new result.writer
         × (result.tied_blocks ≡ count_where (tied_for k n codewords.now values.now) (count / 4 * 4)) }
 {
-    let fours = count / 4;
     let mut writer = BitWriter::new();
     let mut tied_blocks = 0usize;
-    let mut turn = 0usize;
-    let mut at = 0usize;
-    while turn < fours {
-        let end = at + 4 * k;
-        let found = lloyd_search_f32::search_four_f32(codewords, n, k, &values[at..end]);
-        writer = writer.push(found.first.found.index as u32, width, output);
-        writer = writer.push(found.second.found.index as u32, width, output);
-        writer = writer.push(found.third.found.index as u32, width, output);
-        writer = writer.push(found.fourth.found.index as u32, width, output);
+    for turn in 0..count / 4 {
+        let at = turn * 4 * k;
+        let found = lloyd_search_f32::search_four_f32(codewords, n, k, &values[at..at + 4 * k]);
+        writer = writer.push(found[0].found.index as u32, width, output);
+        writer = writer.push(found[1].found.index as u32, width, output);
+        writer = writer.push(found[2].found.index as u32, width, output);
+        writer = writer.push(found[3].found.index as u32, width, output);
         tied_blocks = tied_blocks + count_four(found);
-        at = end;
-        turn += 1usize;
     }
     Blocks {
         writer,
@@ -239,16 +216,12 @@ fn write_indices(
     let fours = write_fours(codewords, n, k, count, width, values, output);
     let mut writer = fours.writer;
     let mut tied_blocks = fours.tied_blocks;
-    let mut i = count / 4 * 4;
-    let mut at = i * k;
-    while i < count {
-        let end = at + k;
-        let choice = lloyd_search_f32::search_f32(codewords, n, &values[at..end]);
+    for i in count / 4 * 4..count {
+        let at = i * k;
+        let choice = lloyd_search_f32::search_f32(codewords, n, &values[at..at + k]);
         let index = choice.found.index;
         writer = writer.push(index as u32, width, output);
         tied_blocks = tied_blocks + count_one(choice);
-        at = end;
-        i += 1usize;
     }
     writer.finish(output);
     tied_blocks
@@ -260,8 +233,7 @@ fn write_front(width: u8, count: u32, bits: u16, output: &mut [u8])
     ensures { output.new ≡ header width count 2 ++ bytes_of 2 bits ++ drop 13 output.old }
 {
     compact::write_header(width, count, 2, output);
-    let norm = [(bits % 256) as u8, (bits / 256) as u8];
-    compact::write_part(&norm, output, 11);
+    compact::write_part(&bits.to_le_bytes(), output, 11);
 }
 
 // The whole frame, from the values that the search sees. Returns the number of its tied blocks.
@@ -333,16 +305,9 @@ fn write_code(
     tied_blocks as u32
 }
 
-// The answer of an encoding. The frame is written, and for so many of its blocks another codeword was as near as the one
-// chosen; or it is refused.
-#[derive(Clone, Copy)]
-pub enum Encoded {
-    Written { tied_blocks: u32 },
-    Refused(Refusal),
-}
-
-// The frame of a vector: its norm, and for each block the index of the nearest codeword; and for how many blocks that was
-// a toss. A refusal leaves both buffers as they were. An input of the wrong length is refused before any of it is read.
+// The frame of a vector: its norm, and for each block the index of the nearest codeword. Returns for how many blocks
+// another codeword was as near as the one chosen. A refusal leaves both buffers as they were. An input of the wrong length is refused before any of it is read.
+#[tactic(auto, unfolding(crate::specs::Encode::codable))]
 pub fn encode(
     profile: FibQuantProfile,
     schema: &[u8],
@@ -353,16 +318,16 @@ pub fn encode(
     input: &[f32],
     output: &mut [u8],
     work: &mut [f64],
-) -> Encoded
+) -> Result<u32, Refusal>
     ensures { let c = encode_call profile schema.now rotation_algorithm.now log2
         matrix.now codewords.now input.now
         (length output.old) (length work.old) in
-        (encoded_of result ≡ counting c)
+        (outcome result ≡ counting c)
         × (output.new ≡ contents (encoding c) output.old)
         × (work.new ≡ if_completed (encoding c)
         (replicate (length work.old) plus_zero) work.old) }
 {
-    let checks = check_call(
+    check_call(
         profile,
         schema,
         rotation_algorithm,
@@ -372,19 +337,8 @@ pub fn encode(
         input,
         output.len(),
         work.len(),
-    );
-    if let Checked::Refused(refusal) = checks {
-        return Encoded::Refused(refusal);
-    }
+    )?;
     let norm = l2_norm(input);
-    let pattern = check_norm(input, norm);
-    match pattern {
-        NormBits::Refused(refusal) => Encoded::Refused(refusal),
-        NormBits::Bits(bits) => {
-            let tied_blocks = write_code(
-                profile, matrix, codewords, input, norm, bits, output, work,
-            );
-            Encoded::Written { tied_blocks }
-        }
-    }
+    let bits = check_norm(input, norm)?;
+    Ok(write_code(profile, matrix, codewords, input, norm, bits, output, work))
 }

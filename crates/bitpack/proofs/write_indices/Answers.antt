@@ -1,74 +1,48 @@
 -- `write_indices` meets its contract: before index i the writer stands at bit i * width of the packing. Assumes nothing.
-use mathlib.Core.Path.{◌≡◌, refl, sym, ap, ◌∙◌}
-use Prim.Native.Nat.{ℕ, ◌*◌}
+use mathlib.Core.Path.{◌≡◌, sym, ◌∙◌}
+use Prim.Native.Nat.{◌*◌}
 use native.Mathlib.Omega.{arith}
-use native.Mathlib.Nat.{zero-mul, mul-le-mul_right}
-use lib.ListN.{length, get_or}
+use native.Mathlib.Nat.{zero-mul}
+use lib.ListN.{length}
+use Rattle.std.specs.Prelude.{ℕ, List}
+use Rattle.bitpack.specs.declared.BitWriter.{BitWriter}
 use Rattle.slices.proofs.TabulateLaw.{filled_all}
-use Rattle.bitpack.specs.Layout.{packed_bit, packed_bytes, byte_of, bytes_for}
+use Rattle.bitpack.specs.Layout.{packed_bit, byte_of, bytes_for}
 use Rattle.bitpack.specs.Cursor.{WriterAt}
-use Rattle.bitpack.proofs.Packing.{packed_binary, packed_index, packed_after, length_packed}
-use Rattle.bitpack.proofs.Steps.{pushable, finishable, writing-length, next_place, next_within}
+use Rattle.bitpack.proofs.Packing.{packed_binary, packed_index, packed_after}
+use Rattle.bitpack.proofs.Steps.{pushable, finishable, next_place, next_within}
 use Rattle.bitpack.proofs.write_indices.Goals as goal
 
-pub loop-i-init : goal.loop-i-init
-loop-i-init c =
-    let s = c in
-    (omega arith, refl, rw (zero-mul s.args.width) (c.new-writer.ensures (packed_bit s.args.indices.now s.args.width) s.args.output.now (packed_binary s.args.indices.now s.args.width)))
+pub loop-index-init : goal.loop-index-init
+loop-index-init c =
+    let xs = c.args.indices.now in
+    rw (zero-mul c.args.width) (c.new-writer.ensures (packed_bit xs c.args.width) c.args.output.now (packed_binary xs c.args.width))
 
 pub push-writer-requires : goal.push-writer-requires
 push-writer-requires c =
-    let l = c in
-    let s = l in
-    let xs = s.args.indices.now in
-    pushable (packed_bit xs s.args.width) (l.loop-i.i * s.args.width) s.args.output.now l.loop-i.output (get_or xs l.loop-i.i 0) s.args.width l.loop-i.writer l.loop-i.invariant.2
-    (sym (packed_index xs s.args.width l.loop-i.i (omega arith) (s.requires.1 l.loop-i.i)))
-    s.requires.0
-    (omega (arith, s.requires.2, next_within l.loop-i.i (length xs) s.args.width (omega arith)))
+    let xs = c.args.indices.now in
+    let i = c.loop-index.index-index in
+    pushable _ _ _ _ _ _ _ c.loop-index.invariant
+    (sym (packed_index xs c.args.width i (omega arith) (c.requires.1 i)))
+    c.requires.0
+    (omega (arith, c.requires.2, next_within i (length xs) c.args.width (omega arith)))
 
-pub loop-i-preserved : goal.loop-i-preserved
-loop-i-preserved c =
-    let l = c in
-    let s = l in
-    let xs = s.args.indices.now in
-    let pushed =
-    c.push-writer.ensures (packed_bit xs s.args.width) (l.loop-i.i * s.args.width) s.args.output.now l.loop-i.invariant.2
-    (sym (packed_index xs s.args.width l.loop-i.i (omega arith) (s.requires.1 l.loop-i.i))) in (
-      omega arith,
-      writing-length _ _ _ _ _ _ _ pushed.writing,
-      rw (next_place l.loop-i.i s.args.width) pushed,
-    )
+pub loop-index-preserved : goal.loop-index-preserved
+loop-index-preserved c =
+    let i = c.loop-index.index-index in
+    rw (next_place i c.args.width) (c.push-writer.ensures _ _ _ c.loop-index.invariant (sym (packed_index c.args.indices.now c.args.width i (omega arith) (c.requires.1 i))))
+
+-- after the last index the writer stands at the end of the packing
+at_end : (i n w : ℕ) (f : ℕ → ℕ) (old out : List ℕ) (writer : BitWriter) → i ≡ n → WriterAt f (i * w) old out writer → WriterAt f (n * w) old out writer
+at_end i n w f old out writer e h = rw (← e) h
 
 pub finish-requires : goal.finish-requires
 finish-requires c =
-    let l = c in
-    let s = l in
-    finishable (packed_bit s.args.indices.now s.args.width) (l.loop-i.i * s.args.width) s.args.output.now l.loop-i.output l.loop-i.writer l.loop-i.invariant.2
-    (omega (arith, s.requires.2, mul-le-mul_right s.args.width l.loop-i.invariant.0))
-
-pub shape_of-output : goal.shape_of-output
-shape_of-output c =
-    let packed : let s = c in c.finish.new.out ≡ packed_bytes s.args.indices.now s.args.width =
-    let l = c in
-    let s = l in
-    let xs = s.args.indices.now in
-    let f : ℕ → ℕ = packed_bit xs s.args.width in
-    let e : l.loop-i.i ≡ length xs = omega arith in
-    let stands : WriterAt f (length xs * s.args.width) s.args.output.now l.loop-i.output l.loop-i.writer = rw e at l.loop-i.invariant.2 in
-    c.finish.ensures f (length xs * s.args.width) s.args.output.now stands (packed_after xs s.args.width)
-    ∙ filled_all (bytes_for (length xs * s.args.width)) (byte_of f) s.args.output.now (omega (arith, s.requires.2)) in
-    let s = c in
-    ap length (packed) ∙ length_packed s.args.indices.now s.args.width ∙ sym s.requires.2
+    finishable _ _ _ _ _ (at_end _ (length c.args.indices.now) _ _ _ _ _ (omega arith) c.loop-index.invariant) (omega (arith, c.requires.2))
 
 pub returns : goal.returns
 returns c =
-    let packed : let s = c in c.finish.new.out ≡ packed_bytes s.args.indices.now s.args.width =
-    let l = c in
-    let s = l in
-    let xs = s.args.indices.now in
-    let f : ℕ → ℕ = packed_bit xs s.args.width in
-    let e : l.loop-i.i ≡ length xs = omega arith in
-    let stands : WriterAt f (length xs * s.args.width) s.args.output.now l.loop-i.output l.loop-i.writer = rw e at l.loop-i.invariant.2 in
-    c.finish.ensures f (length xs * s.args.width) s.args.output.now stands (packed_after xs s.args.width)
-    ∙ filled_all (bytes_for (length xs * s.args.width)) (byte_of f) s.args.output.now (omega (arith, s.requires.2)) in
-    packed
+    let xs = c.args.indices.now in
+    let n = length xs * c.args.width in
+    c.finish.ensures _ n _ (at_end _ (length xs) _ _ _ _ _ (omega arith) c.loop-index.invariant) (packed_after xs c.args.width)
+    ∙ filled_all (bytes_for n) (byte_of (packed_bit xs c.args.width)) c.args.output.now (omega (arith, c.requires.2))

@@ -1,30 +1,20 @@
--- `compact::write_compact` meets its contract: the tests that led to a return
--- say which answer `writing` gives, and the three writes leave the frame.
--- Assumes nothing.
+-- `compact::write_compact` meets its contract: the three writes leave the frame. Assumes nothing.
 use mathlib.Core.Path.{◌≡◌, sym, ap, ◌∙◌}
-use mathlib.Core.List.{List, [], ◌∷◌, ◌++◌, append-nil}
-use Prim.Native.Nat.{ℕ, ◌+◌, ◌≤◌, ◌<◌}
+use mathlib.Core.List.{List, ◌++◌, append-nil}
+use Prim.Native.Nat.{ℕ, ◌+◌, ◌≤◌}
 use native.Mathlib.Omega.{arith}
 use lib.ListN.{length, take, drop, length-append, length-drop, drop_of_length-le}
 use lib.Seq.{take_at}
-use borrow.Author.Tests.{lt-ltb, le-ltb, eq-eqb, ne_eqb}
-use Rattle.error.specs.Numbers.{completed, refused, whole}
+use borrow.Author.Tests.{le-ltb, eq-eqb}
+use Rattle.error.specs.Numbers.{completed}
 use Rattle.compact.specs.Frame.{header, frame_of, writing}
 use Rattle.compact.proofs.FrameLaws.{length-header}
 use Rattle.compact.proofs.write_compact.Goals as goal
 
-module _ (norm indices output : List ℕ) where
-  norm_long : 65535 < length norm → writing norm indices output ≡ refused 7 (whole 11 ∷ [])
-  unfolding writing
-  norm_long h = rw (lt-ltb 65535 (length norm) h)
-
-  output_wrong : length norm ≤ 65535 → (length output ≡ 11 + length norm + length indices → ⊥) → writing norm indices output ≡ refused 7 (whole 6 ∷ [])
-  unfolding writing
-  output_wrong h l = rw (le-ltb 65535 (length norm) h, ne_eqb (length output) (11 + length norm + length indices) l)
-
-  output_right : length norm ≤ 65535 → length output ≡ 11 + length norm + length indices → writing norm indices output ≡ completed tt
-  unfolding writing
-  output_right h l = rw (le-ltb 65535 (length norm) h, eq-eqb (length output) (11 + length norm + length indices) l)
+output_right : (norm indices output : List ℕ) → length norm ≤ 65535 → length output ≡ 11 + length norm + length indices
+    → writing norm indices output ≡ completed tt
+unfolding writing
+output_right norm indices output h l = rw (le-ltb 65535 (length norm) h, eq-eqb (length output) (11 + length norm + length indices) l)
 
 -- the three writes, one after the other, leave the frame
 assembled : (width count : ℕ) (norm indices output o₁ o₂ o₃ : List ℕ) → length output ≡ 11 + length norm + length indices
@@ -45,27 +35,15 @@ assembled width count norm indices output o₁ o₂ o₃ l e₁ e₂ e₃ =
     ∙ ap (λ (t : List ℕ). head ++ norm ++ indices ++ t) (drop_of_length-le o₂ {i = 11 + length norm + length indices} (omega arith))
     ∙ append-nil (head ++ norm ++ indices)
 
-pub returns-then-norm_len-gt65535 : goal.returns-then-norm_len-gt65535
-returns-then-norm_len-gt65535 c =
-    let a = c.args in
-    let e = norm_long a.norm.now a.indices.now a.output.now c.if-norm_len-gt65535.true in
-    (sym e, rw e)
-
-pub returns-then-output-start : goal.returns-then-output-start
-returns-then-output-start c =
-    let a = c.args in
-    let e = output_wrong a.norm.now a.indices.now a.output.now c.if-norm_len-gt65535.false c.if-output-start.true in
-    (sym e, rw e)
-
 pub returns : goal.returns
 returns c =
-    let wrote = c in
-    let tested = wrote in
-    let a = tested.args in
-    let e = output_right a.norm.now a.indices.now a.output.now tested.if-norm_len-gt65535.false tested.if-output-start.false in (
+    let norm = c.args.norm.now in
+    let indices = c.args.indices.now in
+    let output = c.args.output.now in
+    let short : c.in-Ok.norm_len ≡ length norm = omega (arith, c.in-Ok.ensures) in
+    let e = output_right norm indices output (omega arith) c.if-output-start.false in (
       sym e,
       rw e
-          (assembled a.width a.count a.norm.now a.indices.now a.output.now wrote.write_header.new.output
-          wrote.write_part.new.output wrote.write_part-2.new.output tested.if-output-start.false
-          wrote.write_header.ensures wrote.write_part.ensures wrote.write_part-2.ensures),
+          (assembled c.args.width c.args.count norm indices output c.write_header.new.output c.write_part.new.output c.write_part-2.new.output
+          c.if-output-start.false (rw short at c.write_header.ensures) c.write_part.ensures c.write_part-2.ensures),
     )

@@ -14,41 +14,33 @@ use Rattle.decode.proofs.DecodeLaw.{fails, index_passes, below_none, below_first
 use Rattle.decode.proofs.check_below.Goals as goal
 
 pub loop-i-init : goal.loop-i-init
-loop-i-init c =
-    let s = c in
-    (omega arith, λ j l. absurd (omega arith), rw (zero-mul s.args.width) (c.new-reader.ensures s.args.indices.now))
+loop-i-init c = record { passed = λ j l. absurd (omega arith); reads = rw (zero-mul c.args.width) (c.new-reader.ensures c.args.indices.now) }
 
 pub pull-pulled-requires : goal.pull-pulled-requires
 pull-pulled-requires c =
-    let l = c in
-    let s = l in
-    pullable s.args.indices.now (l.loop-i.i * s.args.width) s.args.width l.loop-i.reader l.loop-i.invariant.2 s.requires.0
-    (omega (arith, s.requires.1, next_within l.loop-i.i s.args.count s.args.width (omega arith)))
+    let i = c.loop-i._i in
+    pullable c.args.indices.now (i * c.args.width) c.args.width c.loop-i.reader c.loop-i.invariant.reads c.requires.0
+    (omega (arith, c.requires.1, next_within i c.args.count c.args.width (omega arith)))
 
 pub returns-then-n-index : goal.returns-then-n-index
 returns-then-n-index c =
-    let l = c in
-    let s = l in
-    let v = (c.pull-pulled.ensures (l.loop-i.i * s.args.width) l.loop-i.invariant.2).value in
-    let i = c.pull-pulled.result.value in
-    ap (λ (z : ℕ). refused 11 (whole z ∷ whole s.args.n ∷ [])) v
-    ∙ sym (below_first s.args.indices.now s.args.count s.args.width s.args.n l.loop-i.i (omega arith) l.loop-i.invariant.1 (omega (arith, v, c.if-n-index.true)))
+    let a = c.args in
+    let i = c.loop-i._i in
+    let v = (c.pull-pulled.ensures (i * a.width) c.loop-i.invariant.reads).value in
+    ap (λ (z : ℕ). refused 11 (whole z ∷ whole a.n ∷ [])) v
+    ∙ sym (below_first a.indices.now a.count a.width a.n i (omega arith) c.loop-i.invariant.passed (omega (arith, v, c.if-n-index.true)))
 
 pub loop-i-preserved : goal.loop-i-preserved
 loop-i-preserved c =
-    let l = c in
-    let s = l in
-    let pulled = c.pull-pulled.ensures (l.loop-i.i * s.args.width) l.loop-i.invariant.2 in
-    let v = pulled.value in (
-      omega arith,
-      rw add-one
-          (below_suc (λ (j : ℕ). fails s.args.indices.now s.args.count s.args.width s.args.n j ≡ false) l.loop-i.i l.loop-i.invariant.1
-          (index_passes s.args.indices.now s.args.count s.args.width s.args.n l.loop-i.i (omega arith) (omega (arith, v, c.if-n-index.false)))),
-      rw (next_place l.loop-i.i s.args.width) pulled.next,
-    )
+    let a = c.args in
+    let i = c.loop-i._i in
+    let pulled = c.pull-pulled.ensures (i * a.width) c.loop-i.invariant.reads in
+    let v = pulled.value in record {
+      passed = rw add-one
+          (below_suc (λ (j : ℕ). fails a.indices.now a.count a.width a.n j ≡ false) i c.loop-i.invariant.passed
+          (index_passes a.indices.now a.count a.width a.n i (omega arith) (omega (arith, v, c.if-n-index.false))));
+      reads = rw (next_place i a.width) pulled.next;
+    }
 
 pub returns : goal.returns
-returns c =
-    let l = c in
-    let s = l in
-    sym (below_none s.args.indices.now s.args.count s.args.width s.args.n (λ j h. l.loop-i.invariant.1 j (omega arith)))
+returns c = sym (below_none c.args.indices.now c.args.count c.args.width c.args.n (λ j h. c.loop-i.invariant.passed j (omega arith)))

@@ -1,6 +1,5 @@
 use mathlib.Core.Path.{◌≡◌}
-use Prim.Native.Nat.{◌*◌, ◌-◌, ◌≤◌}
-use lib.ListN.{length}
+use Prim.Native.Nat.{◌*◌}
 use Rattle.slices.specs.Lists.{patched}
 use Rattle.bitpack.specs.Layout.{unpacked_indices}
 use Rattle.bitpack.specs.Cursor.{ReaderAt}
@@ -8,8 +7,7 @@ use Rattle.decode.specs.Decode.{rotated_at}
 use Rattle.decode.proofs.gather.Given as goal
 
 abbrev pub invariant-loop-i : goal.invariant-loop-i
-invariant-loop-i l =
-    (l.i ≤ l.count) × (l.at ≡ l.i * l.k) × (length l.work ≡ length l.initial.work) × (l.work ≡ patched l.initial.work 0 (l.i * l.k) (rotated_at l.k l.codewords (unpacked_indices l.indices l.count l.width))) × ReaderAt l.indices (l.i * l.width) l.reader
-
-abbrev pub decreases-loop-i : goal.decreases-loop-i
-decreases-loop-i l = l.count - l.i
+invariant-loop-i l = record {
+  gathered : l.work ≡ patched l.initial.work 0 (l.i * l.k) (rotated_at l.k l.codewords (unpacked_indices l.indices l.count l.width));
+  reads : ReaderAt l.indices (l.i * l.width) l.reader;
+}

@@ -1,8 +1,8 @@
 use mathlib.Core.Path.{◌≡◌}
 use mathlib.Core.Bool.{Bool, not}
 use mathlib.Core.List.{List}
-use Prim.Native.Nat.{ℕ, ◌+◌, ◌-◌, ◌≤◌}
-use lib.ListN.{length, get_or}
+use Prim.Native.Nat.{ℕ, ◌+◌}
+use lib.ListN.{get_or}
 use lib.Ieee.{Float, nan, binary32, binary64, mul}
 use lib.Ieee.Scale.{finite}
 use Rattle.slices.specs.First.{first_where}
@@ -17,8 +17,7 @@ abbrev pub fails : Float → List Float → ℕ → ℕ → Bool
 fails norm work d i = not (finite (scaled norm work d i))
 
 abbrev pub invariant-loop-i : goal.invariant-loop-i
-invariant-loop-i l =
-    (l.i ≤ l.d) × (length l.work ≡ l.d + l.d) × (l.bad ≡ first_where (fails l.norm l.initial.work l.d) l.i) × (l.work ≡ patched l.initial.work l.d l.i (scaled l.norm l.initial.work l.d))
-
-abbrev pub decreases-loop-i : goal.decreases-loop-i
-decreases-loop-i l = l.d - l.i
+invariant-loop-i l = record {
+  found : l.bad ≡ first_where (fails l.norm l.initial.work l.d) l.i;
+  written : l.work ≡ patched l.initial.work l.d l.i (scaled l.norm l.initial.work l.d);
+}
