@@ -3,3 +3,4 @@ pub mod DonorLaw
 pub mod FitLaw
 pub mod WorkLaw
 pub mod TallyLaw
+pub mod ClearLaw

@@ -1,6 +1,7 @@
 -- What the repairs do to the tallies: empty cells are filled in their turn, no cell falls to 0, the total stays; an
 -- event for each empty cell. With as many samples as cells there is always a donor.
 -- Assumes nothing.
+use Rattle.std.specs.Prelude.{Option, None, Some}
 use mathlib.Core.Path.{◌≡◌, refl, sym, ap, ◌∙◌, subst}
 use mathlib.Core.Logic.{◌⊎◌, inl, inr}
 use Prim.Native.Nat.{ℕ, zero, suc, ◌+◌, ◌-◌, ◌<◌, ◌≤◌}
@@ -15,8 +16,6 @@ use lib.Ieee.{Float, le}
 use borrow.Author.Tests.{eqb-true, eqb-false, eq-eqb, ne_eqb}
 use Rattle.error.specs.Numbers.{Value, completed, refused, whole}
 use Rattle.error.proofs.Outcomes.{then_completed, then_refused}
-use Rattle.slices.specs.declared.First.{First}
-use Rattle.slices.specs.declared.First.TheVariants.{Nowhere, At}
 use Rattle.lloyd_cells.specs.Cells.{count_to, total}
 use Rattle.lloyd_cells.specs.Repair.{Cells, Terms, Repaired, donor_to, least_norm, residual_norm, split, event_of, repair_by, turn, repair_to, Tallied}
 use Rattle.lloyd_cells.proofs.CellsLaw.{count_to_in, count_to_out, count_to_upto, total_change}
@@ -24,7 +23,7 @@ use Rattle.lloyd_cells.proofs.DonorLaw.{donor_plenty, donor_none}
 
 -- ---- one turn
 module _ (t : Terms) (far : ℕ → ℕ → Float) (e : ℕ) (r : Repaired) where
-  abbrev donor : First
+  abbrev donor : Option ℕ
   donor = donor_to r.cells.tally r.cells.distortion t.cells
 
   -- the cells and the events once donor c is split for cell e
@@ -33,9 +32,9 @@ module _ (t : Terms) (far : ℕ → ℕ → Float) (e : ℕ) (r : Repaired) wher
       let norm = residual_norm t.dim (far c) (r.cells.word c) in
       record { cells = split t.dim (far c) norm r.cells c e; events = r.events ++ (event_of t r.cells c e norm ∷ []) }
 
-  repaired : (d : First) → donor ≡ d → (s : Repaired) → repair_by t far e r d ≡ completed s → (c : ℕ) × (donor ≡ At c) × (s ≡ split_by c)
-  repaired Nowhere q s h = let z : ◌≡◌ {A = ℕ} 0 1 = cc in absurd (omega arith)
-  repaired (At c) q s h = (c, q, tests (le (residual_norm t.dim (far c) (r.cells.word c)) least_norm) (leb t.free (length r.events)) h)
+  repaired : (d : Option ℕ) → donor ≡ d → (s : Repaired) → repair_by t far e r d ≡ completed s → (c : ℕ) × (donor ≡ Some c) × (s ≡ split_by c)
+  repaired None q s h = let z : ◌≡◌ {A = ℕ} 0 1 = cc in absurd (omega arith)
+  repaired (Some c) q s h = (c, q, tests (le (residual_norm t.dim (far c) (r.cells.word c)) least_norm) (leb t.free (length r.events)) h)
     where
       tests : (a b : Bool) → cond a (refused 16 (whole c ∷ [])) (cond b (refused 19 (whole t.shown ∷ [])) (completed (split_by c))) ≡ completed s → s ≡ split_by c
       tests true b k = let z : ◌≡◌ {A = ℕ} 0 1 = cc in absurd (omega arith)
@@ -44,17 +43,17 @@ module _ (t : Terms) (far : ℕ → ℕ → Float) (e : ℕ) (r : Repaired) wher
 
   -- a cell with samples is passed over; an empty one is filled by a donor
   pub turn_completed : (s : Repaired) → turn t far e r ≡ completed s
-      → ((0 < r.cells.tally e) × (s ≡ r)) ⊎ ((c : ℕ) × (r.cells.tally e ≡ 0) × (donor_to r.cells.tally r.cells.distortion t.cells ≡ At c) × (s ≡ split_by c))
+      → ((0 < r.cells.tally e) × (s ≡ r)) ⊎ ((c : ℕ) × (r.cells.tally e ≡ 0) × (donor_to r.cells.tally r.cells.distortion t.cells ≡ Some c) × (s ≡ split_by c))
   turn_completed s h = go (eqb (r.cells.tally e) 0) refl h
     where
       go : (b : Bool) → eqb (r.cells.tally e) 0 ≡ b → cond b (repair_by t far e r donor) (completed r) ≡ completed s
-          → ((0 < r.cells.tally e) × (s ≡ r)) ⊎ ((c : ℕ) × (r.cells.tally e ≡ 0) × (donor ≡ At c) × (s ≡ split_by c))
+          → ((0 < r.cells.tally e) × (s ≡ r)) ⊎ ((c : ℕ) × (r.cells.tally e ≡ 0) × (donor ≡ Some c) × (s ≡ split_by c))
       go true q k = let (c, d, x) = repaired donor refl s k in inr (c, eqb-true (r.cells.tally e) 0 q, d, x)
       go false q k = let o = eqb-false (r.cells.tally e) 0 q in inl (omega arith, cc)
 
-  unrepaired : (d : First) → donor ≡ d → (vs : List Value) → repair_by t far e r d ≡ refused 15 vs → donor ≡ Nowhere
-  unrepaired Nowhere q vs h = q
-  unrepaired (At c) q vs h = absurd (tests (le (residual_norm t.dim (far c) (r.cells.word c)) least_norm) (leb t.free (length r.events)) h)
+  unrepaired : (d : Option ℕ) → donor ≡ d → (vs : List Value) → repair_by t far e r d ≡ refused 15 vs → donor ≡ None
+  unrepaired None q vs h = q
+  unrepaired (Some c) q vs h = absurd (tests (le (residual_norm t.dim (far c) (r.cells.word c)) least_norm) (leb t.free (length r.events)) h)
     where
       tests : (a b : Bool) → cond a (refused 16 (whole c ∷ [])) (cond b (refused 19 (whole t.shown ∷ [])) (completed (split_by c))) ≡ refused 15 vs → ⊥
       tests true b k = let z : ◌≡◌ {A = ℕ} 16 15 = cc in omega arith
@@ -62,10 +61,10 @@ module _ (t : Terms) (far : ℕ → ℕ → Float) (e : ℕ) (r : Repaired) wher
       tests false false k = let z : ◌≡◌ {A = ℕ} 0 1 = cc in omega arith
 
   -- 15 comes for an empty cell where no cell has tally above 1
-  pub turn_no_donor : (vs : List Value) → turn t far e r ≡ refused 15 vs → (r.cells.tally e ≡ 0) × (donor_to r.cells.tally r.cells.distortion t.cells ≡ Nowhere)
+  pub turn_no_donor : (vs : List Value) → turn t far e r ≡ refused 15 vs → (r.cells.tally e ≡ 0) × (donor_to r.cells.tally r.cells.distortion t.cells ≡ None)
   turn_no_donor vs h = go (eqb (r.cells.tally e) 0) refl h
     where
-      go : (b : Bool) → eqb (r.cells.tally e) 0 ≡ b → cond b (repair_by t far e r donor) (completed r) ≡ refused 15 vs → (r.cells.tally e ≡ 0) × (donor ≡ Nowhere)
+      go : (b : Bool) → eqb (r.cells.tally e) 0 ≡ b → cond b (repair_by t far e r donor) (completed r) ≡ refused 15 vs → (r.cells.tally e ≡ 0) × (donor ≡ None)
       go true q k = (eqb-true (r.cells.tally e) 0 q, unrepaired donor refl vs k)
       go false q k = let z : ◌≡◌ {A = ℕ} 0 1 = cc in absurd (omega arith)
 

@@ -1,12 +1,10 @@
 -- Repair of empty cells: document 01's rule. Definitions only.
-use Rattle.std.specs.Prelude.{◌≡◌, ℕ, zero, suc, ◌-◌, ◌<◌, ◌≤◌, false, not, ◌||◌, cond, List, [], ◌∷◌, ◌++◌, T, eqb, leb, ltb, negsuc, length, Float}
+use Rattle.std.specs.Prelude.{◌≡◌, ℕ, zero, suc, ◌-◌, ◌<◌, ◌≤◌, false, not, ◌||◌, cond, List, [], ◌∷◌, ◌++◌, T, eqb, leb, ltb, negsuc, length, Float, Option, None, Some}
 use Rattle.std.specs.Float.{fin, binary64}
 use Rattle.std.specs.Float.Ieee.{add, sub, mul, div, lt, le}
 use Rattle.error.specs.Numbers.{Outcome, completed, refused, and_then, whole}
 use Rattle.ieee.specs.Sum.{plus_zero}
 use Rattle.root.specs.Sqrt.{sqrt_of}
-use Rattle.slices.specs.declared.First.{First}
-use Rattle.slices.specs.declared.First.TheVariants.{Nowhere, At}
 use Rattle.lloyd_search.specs.Distance.{distance}
 use Rattle.lloyd_events.specs.declared.LloydRepairEvent.{LloydRepairEvent}
 use Rattle.lloyd_cells.specs.Cells.{total}
@@ -29,12 +27,12 @@ pub record Terms : Type 0 where
   pub shown : ℕ
 
 -- The donor among the first n cells: tally above 1 and the largest distortion, the last of equals
-abbrev pub or_larger : (ℕ → Float) → ℕ → First → First
-or_larger d n Nowhere = At n
-or_larger d n (At b) = cond (lt (d n) (d b)) (At b) (At n)
+abbrev pub or_larger : (ℕ → Float) → ℕ → Option ℕ → Option ℕ
+or_larger d n None = Some n
+or_larger d n (Some b) = cond (lt (d n) (d b)) (Some b) (Some n)
 
-unfoldable pub donor_to : (ℕ → ℕ) → (ℕ → Float) → ℕ → First
-donor_to t d zero = Nowhere
+unfoldable pub donor_to : (ℕ → ℕ) → (ℕ → Float) → ℕ → Option ℕ
+donor_to t d zero = None
 donor_to t d (suc n) = cond (ltb 1 (t n)) (or_larger d n (donor_to t d n)) (donor_to t d n)
 
 -- what is meant by it: cell c has tally above 1; no such cell has
@@ -91,9 +89,9 @@ pub record Repaired : Type 0 where
   pub events : List LloydRepairEvent
 
 -- One repair of the empty cell e, with the donor that was found: 15, 16, 19. `far c` is the farthest sample of cell c.
-abbrev pub repair_by : Terms → (ℕ → ℕ → Float) → ℕ → Repaired → First → Outcome Repaired
-repair_by t far e r Nowhere = refused 15 (whole e ∷ [])
-repair_by t far e r (At c) =
+abbrev pub repair_by : Terms → (ℕ → ℕ → Float) → ℕ → Repaired → Option ℕ → Outcome Repaired
+repair_by t far e r None = refused 15 (whole e ∷ [])
+repair_by t far e r (Some c) =
     let norm = residual_norm t.dim (far c) (r.cells.word c) in
     cond (le norm least_norm) (refused 16 (whole c ∷ []))
     (cond (leb t.free (length r.events)) (refused 19 (whole t.shown ∷ []))

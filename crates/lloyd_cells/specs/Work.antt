@@ -1,6 +1,6 @@
 -- How the lent work holds the cells of an update while it runs. Definitions only.
-use Rattle.std.specs.Prelude.{◌≡◌, List, cond, ℕ, zero, suc, ◌+◌, ◌-◌, ◌*◌, ◌≤◌, ◌<◌, ltb, pos, length, get_or, set, Float}
-use Rattle.std.specs.Float.{nan, binary64}
+use Rattle.std.specs.Prelude.{◌≡◌, List, cond, ℕ, zero, suc, ◌+◌, ◌-◌, ◌*◌, ◌≤◌, ◌<◌, true, ltb, pos, length, get_or, set, Float}
+use Rattle.std.specs.Float.{fin, nan, binary64}
 use Rattle.std.specs.Float.Ieee.{add, sub, div, lt, of_int}
 use Rattle.ieee.specs.Sum.{plus_zero}
 use Rattle.slices.specs.Lists.{patched}
@@ -42,6 +42,10 @@ pub record Held (p : Places) (n k : ℕ) (st : Cells) (work : List Float) (count
   pub distortions : (c : ℕ) → c < n → get_or work (p.distortions + c) nan ≡ st.distortion c
 
 -- ---- what the steps of an update do to the work
+
+-- float work w when nothing is added up yet: zeros, and n farthest distances of -1, below every distance
+abbrev pub cleared : Places → ℕ → List Float → List Float
+cleared p n w = patched (patched w p.words (p.farthest - p.words) (λ i. plus_zero)) p.farthest n (λ i. fin true 1 (pos 0))
 
 -- float work w after a sample of k coordinates, at distance d, joins a cell
 abbrev pub gather_work : Places → ℕ → ℕ → List Float → Float → List Float → List Float

@@ -2,15 +2,13 @@
 // Every function here is public only for the crates above, which lend work of the right lengths.
 #![tactic(auto)]
 
-ghost use Rattle.std.specs.Prelude.{◌≡◌, ◌⊎◌, ◌+◌, ◌*◌, ◌≤◌, ◌<◌, ◌^◌, pos, length, get_or, set};
+ghost use Rattle.std.specs.Prelude.{◌≡◌, ◌⊎◌, ◌+◌, ◌*◌, ◌≤◌, ◌<◌, ◌^◌, pos, true, not, length, get_or, set, replicate, MatchOption};
 ghost use Rattle.std.specs.Float.{nan, binary64};
 ghost use Rattle.std.specs.Float.Ieee.{add, sub, div, lt, of_int};
 ghost use Rattle.slices.specs.Lists.{patched};
 ghost use Rattle.lloyd_search.specs.Distance.{vector_of};
 ghost use Rattle.lloyd_cells.specs.Repair.{donor_to, shift, residual_norm};
-ghost use Rattle.lloyd_cells.specs.Work.{places_at, Fit, gather_work, means_to, split_work, split_counts};
-
-use slices::First;
+ghost use Rattle.lloyd_cells.specs.Work.{places_at, cleared, Fit, gather_work, means_to, split_work, split_counts};
 
 // Where the parts of an update begin in the float work.
 #[derive(Clone, Copy)]
@@ -37,23 +35,35 @@ impl Places {
 // By how much a donor's codeword is moved.
 pub const DONOR_SPLIT_EPSILON: f64 = 1.0e-6;
 
+// Nothing is added up yet: zeros, and farthest distances below every distance.
+pub fn clear(work: &mut [f64], counts: &mut [u32], p: Places, n: usize)
+    requires { (p.words ≤ p.farthest) × (p.farthest + n ≤ length work.old) }
+    ensures work { work.new ≡ cleared p n work.old }
+    ensures counts { counts.new ≡ replicate (length counts.old) 0 }
+{
+    let end = p.farthest + n;
+    work[p.words..p.farthest].fill(0.0);
+    work[p.farthest..end].fill(-1.0);
+    counts.fill(0);
+}
+
 // A sample is added to the values from `at` on.
+#[tactic(auto, using(slices::proofs::ListLaw::patched_more, slices::proofs::PartLaw::part_next), unfolding(slices::specs::Lists::patched))]
 pub fn add_to(work: &mut [f64], at: usize, sample: &[f64])
     requires { at + length sample.now ≤ length work.old }
     ensures { work.new
         ≡ patched work.old at (length sample.now)
         (λ j. add binary64 (get_or work.old (at + j) nan) (vector_of sample.now j)) }
 {
-    let mut j = 0usize;
-    let mut i = at;
-    while j < sample.len() {
-        work[i] = work[i] + sample[j];
-        i += 1usize;
-        j += 1usize;
+    let end = at + sample.len();
+    // Kept: an index beside iter_mut, since after a zip with it a proof knows nothing of what was written.
+    for (j, value) in work[at..end].iter_mut().enumerate() {
+        *value = *value + sample[j];
     }
 }
 
 // The k values from `at` on are divided by the count.
+#[tactic(auto, using(slices::proofs::ListLaw::patched_more, slices::proofs::PartLaw::part_next), unfolding(slices::specs::Lists::patched))]
 pub fn divide(work: &mut [f64], at: usize, k: usize, count: u32)
     requires { at + k ≤ length work.old }
     ensures { work.new
@@ -61,42 +71,34 @@ pub fn divide(work: &mut [f64], at: usize, k: usize, count: u32)
         (λ j. div binary64 (get_or work.old (at + j) nan) (of_int binary64 (pos count))) }
 {
     let divisor = count as f64;
-    let mut j = 0usize;
-    let mut i = at;
-    while j < k {
-        work[i] = work[i] / divisor;
-        i += 1usize;
-        j += 1usize;
+    let end = at + k;
+    for value in &mut work[at..end] {
+        *value = *value / divisor;
     }
 }
 
+// Whether a later cell's distortion takes the place of the best so far: where it is no smaller.
+fn takes_over(d: f64, best: Option<(usize, f64)>) -> bool
+    ensures { MatchOption best (result ≡ true) (λ b. result ≡ not (lt d b.1)) }
+{
+    best.is_none_or(|(_, largest)| !(d < largest))
+}
+
 // The cell of tally above 1 with the largest distortion, the last of equals.
-pub fn choose_donor(counts: &[u32], n: usize, work: &[f64], distortions: usize) -> First
+#[tactic(auto, unfolding(crate::specs::Repair::donor_to))]
+pub fn choose_donor(counts: &[u32], n: usize, work: &[f64], distortions: usize) -> Option<usize>
     requires { (n ≤ length counts.now) × (distortions + n ≤ length work.now) }
     ensures { result ≡ donor_to (λ c. get_or counts.now c 0)
         (λ c. get_or work.now (distortions + c) nan) n }
 {
-    // n and -infinity, below every distortion, while there is none
-    let mut best = n;
-    let mut largest = f64::from_bits(ieee::MINUS_INFINITY);
-    let mut c = 0usize;
-    let mut at = distortions;
-    while c < n {
-        if 1 < counts[c] {
-            let d = work[at];
-            if !(d < largest) {
-                best = c;
-                largest = d;
-            }
+    let mut best: Option<(usize, f64)> = None;
+    for c in 0..n {
+        let d = work[distortions + c];
+        if 1 < counts[c] && takes_over(d, best) {
+            best = Some((c, d));
         }
-        at += 1usize;
-        c += 1usize;
     }
-    if best < n {
-        First::At(best)
-    } else {
-        First::Nowhere
-    }
+    best.map(|(c, _)| c)
 }
 
 // How far a coordinate of a donor's codeword is moved along the residual's direction.
@@ -107,6 +109,7 @@ fn shift_of(far: f64, word: f64, norm: f64) -> f64
 }
 
 // The empty cell's codeword: the donor's, moved towards its farthest sample.
+#[tactic(auto, using(slices::proofs::ListLaw::patched_more, slices::proofs::ListLaw::patched_next), unfolding(slices::specs::Lists::patched))]
 pub fn move_to(work: &mut [f64], donor: usize, empty: usize, far: &[f64], norm: f64)
     requires { (donor + length far.now ≤ length work.old) × (empty + length far.now ≤ length work.old)
         × ((empty + length far.now ≤ donor) ⊎ (donor + length far.now ≤ empty)) }
@@ -115,19 +118,15 @@ pub fn move_to(work: &mut [f64], donor: usize, empty: usize, far: &[f64], norm: 
         (λ j. add binary64 (get_or work.old (donor + j) nan)
         (shift (vector_of far.now j) (get_or work.old (donor + j) nan) norm)) }
 {
-    let mut j = 0usize;
-    let mut d = donor;
-    let mut e = empty;
-    while j < far.len() {
-        let word = work[d];
-        work[e] = word + shift_of(far[j], word, norm);
-        d += 1usize;
-        e += 1usize;
-        j += 1usize;
+    for (j, x) in far.iter().enumerate() {
+        let word = work[donor + j];
+        work[empty + j] = word + shift_of(*x, word, norm);
     }
 }
 
+// Kept: beside `move_to`, since one function for + and - would take a closure and a contract longer than both bodies.
 // The donor's own codeword: moved away from its farthest sample.
+#[tactic(auto, using(slices::proofs::ListLaw::patched_more, slices::proofs::PartLaw::part_next), unfolding(slices::specs::Lists::patched))]
 pub fn move_back(work: &mut [f64], donor: usize, far: &[f64], norm: f64)
     requires { donor + length far.now ≤ length work.old }
     ensures { work.new
@@ -135,18 +134,15 @@ pub fn move_back(work: &mut [f64], donor: usize, far: &[f64], norm: f64)
         (λ j. sub binary64 (get_or work.old (donor + j) nan)
         (shift (vector_of far.now j) (get_or work.old (donor + j) nan) norm)) }
 {
-    let mut j = 0usize;
-    let mut d = donor;
-    while j < far.len() {
-        let word = work[d];
-        work[d] = word - shift_of(far[j], word, norm);
-        d += 1usize;
-        j += 1usize;
+    let end = donor + far.len();
+    for (j, word) in work[donor..end].iter_mut().enumerate() {
+        *word = *word - shift_of(far[j], *word, norm);
     }
 }
 
 // One more sample, at distance d from the old codeword of its
 // cell. Answers whether it is the farthest of its cell so far.
+#[tactic(auto, using(crate::proofs::FitLaw::word_within))]
 pub fn gather(
     work: &mut [f64],
     counts: &mut [u32],
@@ -179,19 +175,16 @@ pub fn gather(
 }
 
 // The sums of the cells with samples become their means.
+#[tactic(auto, using(crate::proofs::FitLaw::word_within), unfolding(crate::specs::Work::means_to))]
 pub fn means(work: &mut [f64], counts: &[u32], p: Places, n: usize, k: usize)
     requires { (n ≤ length counts.now) × Fit p n k (length work.old) }
     ensures { work.new ≡ means_to p k counts.now work.old n }
 {
-    let mut c = 0usize;
-    let mut at = p.words;
-    while c < n {
+    for c in 0..n {
         let count = counts[c];
         if 0 < count {
-            divide(&mut *work, at, k, count);
+            divide(&mut *work, p.words + c * k, k, count);
         }
-        at += k;
-        c += 1usize;
     }
 }
 
@@ -206,6 +199,7 @@ pub fn residual_norm(work: &[f64], at: usize, far: &[f64]) -> f64
 }
 
 // The donor is split for the empty cell.
+#[tactic(auto, using(crate::proofs::FitLaw::word_within, crate::proofs::FitLaw::words_apart))]
 pub fn split_cell(
     work: &mut [f64],
     counts: &mut [u32],

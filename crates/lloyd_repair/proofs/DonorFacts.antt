@@ -1,8 +1,7 @@
 -- What the work shows of a donor: its number, its farthest sample, the norm of its residual. Assumes nothing.
-use Rattle.std.proofs.Common.{◌≡◌, ℕ, ◌+◌, ◌-◌, ◌*◌, ◌<◌, ◌≤◌, Bool, true, false, List, length, get_or, take, drop, sym, refl, ap, ◌∙◌, subst, add_assoc, suc-mul, arith}
+use Rattle.std.proofs.Common.{◌≡◌, ℕ, ◌+◌, ◌-◌, ◌*◌, ◌<◌, ◌≤◌, List, length, get_or, take, drop, sym, ap, ◌∙◌, add_assoc, suc-mul, arith, Some}
 use lib.Ieee.{Float, nan, binary64}
 use Rattle.root.specs.Sqrt.{sqrt_of}
-use Rattle.slices.specs.declared.First.TheVariants.{At}
 use Rattle.lloyd_search.specs.Distance.{vector_of, row_of}
 use Rattle.lloyd_search.proofs.Parts.{part_length, part_row, distance_ext}
 use Rattle.lloyd_cells.specs.declared.Places.{Places}
@@ -11,7 +10,8 @@ use Rattle.lloyd_cells.proofs.DonorLaw.{donor_plenty}
 use Rattle.lloyd_cells.proofs.FitLaw.{word_within}
 use Rattle.lloyd_cells.proofs.WorkLaw.{held_donor}
 use Rattle.lloyd_repair.specs.declared.Numbers.{Numbers}
-use Rattle.lloyd_repair.specs.Running.{NumberIs, NumbersFit, HoldsFarthest, Running, Numbered, Chosen}
+use Rattle.lloyd_repair.specs.declared.Numbers.TheVariants.{InFloats, InInts}
+use Rattle.lloyd_repair.specs.Running.{NumberAt, NumbersFit, NumberWithin, HoldsFarthest, Running, Numbered, Chosen}
 
 module _ {p : Places} {m : Numbers} {t : Terms} {samples : List Float} {e donor : ℕ} {work : List Float} {ints : List ℕ} {far : ℕ → ℕ → Float} {start : Cells} {r : Repaired}
     (run : Running p m t samples far start e r work ints) (chosen : Chosen p t e donor work ints) where
@@ -30,36 +30,24 @@ module _ {p : Places} {m : Numbers} {t : Terms} {samples : List Float} {e donor 
   pub apart : donor ≡ e → ⊥
   apart h = let z : get_or ints donor 0 ≡ 0 = ap (λ (i : ℕ). get_or ints i 0) h ∙ chosen.empty in omega (arith, two)
 
-  pub found : donor_to r.cells.tally r.cells.distortion t.cells ≡ At donor
+  pub found : donor_to r.cells.tally r.cells.distortion t.cells ≡ Some donor
   found = sym (held_donor p t.cells t.dim r.cells work ints run.held) ∙ chosen.shows
 
   pub farthest_at : HoldsFarthest m t.dim samples (far donor) donor work ints
   farthest_at = run.farthest donor below tally_two
 
-  room : (b : Bool) → m.in_floats ≡ b → NumbersFit b m.start p t.cells t.dim (length ints)
-  room b h = subst (λ (x : Bool). NumbersFit x m.start p t.cells t.dim (length ints)) h run.room
+  within : (q : Numbers) → NumbersFit q p t.cells t.dim (length ints) → NumberWithin q donor work ints
+  within (InFloats start) h = omega (arith, below, run.fit.distortions, run.fit.farthest)
+  within (InInts start) h = omega (arith, below)
 
-  pub numbered : Numbered m.in_floats (m.start + donor) work ints
-  numbered = record {
-    number = farthest_at.number;
-    is = farthest_at.at;
-    in_work = λ h. let a = room true h in omega (arith, below, run.fit.distortions, run.fit.farthest);
-    in_ints = λ h. let a = room false h in omega (arith, below);
-  }
-
-  -- its place can be counted
-  pub place_below : (L : ℕ) → length work < L → length ints < L → m.start + donor < L
-  place_below L u v = go m.in_floats refl
-    where
-      go : (b : Bool) → m.in_floats ≡ b → m.start + donor < L
-      go true h = let l = numbered.in_work h in omega arith
-      go false h = let l = numbered.in_ints h in omega arith
+  pub numbered : Numbered m donor work ints
+  numbered = record { number = farthest_at.number; is = farthest_at.at; within = within m run.room }
 
   pub word_ends : p.words + donor * t.dim + t.dim ≤ length work
   word_ends = word_within p t.cells t.dim (length work) donor run.fit below
 
   -- with the number that is held
-  module _ (q : ℕ) (held : (s : ℕ) → NumberIs m.in_floats (get_or work (m.start + donor) nan) (get_or ints (m.start + donor) 0) s → q ≡ s) where
+  module _ (q : ℕ) (held : (s : ℕ) → NumberAt m work ints donor s → q ≡ s) where
     pub number_is : q ≡ farthest_at.number
     number_is = held farthest_at.number farthest_at.at
 

@@ -1,10 +1,9 @@
 -- What a repair leaves in the work, and what a refused one comes to. Assumes nothing.
-use Rattle.std.proofs.Common.{◌≡◌, ℕ, suc, ◌+◌, ◌-◌, ◌<◌, ◌≤◌, Bool, true, false, List, [], ◌∷◌, ◌++◌, length, get_or, set, sym, refl, ap, ◌∙◌, subst, add-one, arith, length-set, get_or-set_other, eq-eqb, ne_eqb, le-leb}
+use Rattle.std.proofs.Common.{◌≡◌, ℕ, suc, ◌+◌, ◌-◌, ◌<◌, ◌≤◌, true, false, List, [], ◌∷◌, ◌++◌, length, get_or, set, sym, refl, ap, ◌∙◌, subst, add-one, arith, length-set, get_or-set_other, eq-eqb, ne_eqb, le-leb, None}
 use native.Mathlib.Decide.{ℕ_discrete}
 use lib.Ieee.{Float, nan, le}
 use borrow.Author.Tests.{lt-leb}
 use Rattle.error.specs.Numbers.{completed, refused, Value, whole}
-use Rattle.slices.specs.declared.First.TheVariants.{Nowhere}
 use Rattle.lloyd_search.specs.Distance.{vector_of}
 use Rattle.lloyd_events.specs.declared.LloydRepairEvent.{LloydRepairEvent}
 use Rattle.lloyd_cells.specs.declared.Places.{Places}
@@ -12,7 +11,8 @@ use Rattle.lloyd_cells.specs.Repair.{Cells, Terms, Repaired, donor_to, repair_ce
 use Rattle.lloyd_cells.specs.Work.{Fit, Kept, split_work, split_counts}
 use Rattle.lloyd_cells.proofs.WorkLaw.{held_split, split_kept, held_donor}
 use Rattle.lloyd_repair.specs.declared.Numbers.{Numbers}
-use Rattle.lloyd_repair.specs.Running.{cells_in, NumberIs, NumbersFit, HoldsFarthest, Running, Chosen, OneMore, BehindKept}
+use Rattle.lloyd_repair.specs.declared.Numbers.TheVariants.{InFloats, InInts}
+use Rattle.lloyd_repair.specs.Running.{cells_in, NumberAt, NumbersFit, HoldsFarthest, Running, Chosen, OneMore, BehindKept}
 use Rattle.lloyd_repair.proofs.TurnLaw.{at_turn, is_empty, skip, stays, no_donor, no_direction, no_slot, one_repair}
 use Rattle.lloyd_repair.proofs.DonorFacts.{below, tally_two, tally_none, apart, found}
 
@@ -55,7 +55,7 @@ module _ {p : Places} {m : Numbers} {t : Terms} {samples : List Float} {from : �
   }
 
   -- to an empty one, for which no cell may give
-  pub none_gives : e < t.cells → get_or ints e 0 ≡ 0 → donor_to (λ c. get_or ints c 0) (λ c. get_or work (p.distortions + c) nan) t.cells ≡ Nowhere
+  pub none_gives : e < t.cells → get_or ints e 0 ≡ 0 → donor_to (λ c. get_or ints c 0) (λ c. get_or work (p.distortions + c) nan) t.cells ≡ None
       → repair_to t far start t.cells ≡ refused 15 (whole e ∷ [])
   none_gives l z h =
       all_refused t far start e r passed.came (sym (run.held.tally e l) ∙ z) 15 (whole e ∷ []) l
@@ -73,10 +73,10 @@ still_plenty k f norm st c e apart plenty i h = elim (ℕ_discrete i c) [
 ]
 
 -- the number held for a cell stands where a repair changes nothing
-number_kept : (b : Bool) (start c s n k L : ℕ) (p : Places) (work after : List Float) (ints left : List ℕ) → NumbersFit b start p n k L → Kept p n k work after → BehindKept n ints left → c < n
-    → NumberIs b (get_or work (start + c) nan) (get_or ints (start + c) 0) s → NumberIs b (get_or after (start + c) nan) (get_or left (start + c) 0) s
-number_kept true start c s n k L p work after ints left fit w i l h = rw (w.between (start + c) (omega arith) (omega arith)) h
-number_kept false start c s n k L p work after ints left fit w i l h = i.behind (start + c) (omega arith) ∙ h
+number_kept : (m : Numbers) (c s n k : ℕ) (p : Places) (work after : List Float) (ints left : List ℕ) → NumbersFit m p n k (length ints) → Kept p n k work after → BehindKept n ints left → c < n
+    → NumberAt m work ints c s → NumberAt m after left c s
+number_kept (InFloats start) c s n k p work after ints left fit w i l h = rw (w.between (start + c) (omega arith) (omega arith)) h
+number_kept (InInts start) c s n k p work after ints left fit w i l h = i.behind (start + c) (omega arith) ∙ h
 
 module _ {p : Places} {m : Numbers} {t : Terms} {samples : List Float} {e donor : ℕ} {work : List Float} {ints : List ℕ} {far : ℕ → ℕ → Float} {start : Cells} {r : Repaired}
     (run : Running p m t samples far start e r work ints) (chosen : Chosen p t e donor work ints)
@@ -123,7 +123,7 @@ module _ {p : Places} {m : Numbers} {t : Terms} {samples : List Float} {e donor 
         let f = run.farthest c l (still_plenty t.dim (far donor) norm r.cells donor e distinct two c h) in
         record {
           number = f.number;
-          at = number_kept m.in_floats m.start c f.number t.cells t.dim (length ints) p work after ints left run.room work_kept counts_kept l f.at;
+          at = number_kept m c f.number t.cells t.dim p work after ints left run.room work_kept counts_kept l f.at;
           inside = f.inside;
           is = f.is;
         }
@@ -133,7 +133,7 @@ module _ {p : Places} {m : Numbers} {t : Terms} {samples : List Float} {e donor 
       fit = subst (λ (L : ℕ). Fit p t.cells t.dim L) (sym work_kept.size) run.fit;
       small = run.small;
       counts = subst (λ (L : ℕ). t.cells ≤ L) (sym counts_kept.size) run.counts;
-      room = subst (λ (L : ℕ). NumbersFit m.in_floats m.start p t.cells t.dim L) (sym counts_kept.size) run.room;
+      room = subst (λ (L : ℕ). NumbersFit m p t.cells t.dim L) (sym counts_kept.size) run.room;
       reached = let b = chosen.below in omega arith;
       came = came_to;
       held = rw (is_split, split-counts)

@@ -1,9 +1,8 @@
 -- What the turns of the cells come to, from one empty cell to the next. Assumes nothing.
-use Rattle.std.proofs.Common.{◌≡◌, ℕ, zero, suc, ◌<◌, ◌≤◌, Bool, true, false, cond, leb, List, [], ◌∷◌, ◌++◌, length, ap, ◌∙◌, subst, inl, inr, le_trans, le_of_suc-le-suc, eq-or-lt_of_le, arith, eq-eqb, ne_eqb}
+use Rattle.std.proofs.Common.{◌≡◌, ℕ, zero, suc, ◌<◌, ◌≤◌, Bool, true, false, cond, leb, List, [], ◌∷◌, ◌++◌, length, ap, ◌∙◌, subst, inl, inr, le_trans, le_of_suc-le-suc, eq-or-lt_of_le, arith, eq-eqb, ne_eqb, None, Some}
 use native.Mathlib.Nat.{le-suc}
 use lib.Ieee.{Float, le}
 use Rattle.error.specs.Numbers.{Outcome, completed, refused, and_then, Value, whole}
-use Rattle.slices.specs.declared.First.TheVariants.{Nowhere, At}
 use Rattle.lloyd_cells.specs.Repair.{Cells, Terms, Repaired, turn, repair_by, repair_cell, repair_to, donor_to, residual_norm, least_norm, split, event_of}
 
 module _ (t : Terms) (far : ℕ → ℕ → Float) (st : Cells) where
@@ -39,10 +38,10 @@ module _ (t : Terms) (far : ℕ → ℕ → Float) (st : Cells) where
 
 -- one repair, by the donor that is found and the norm of its residual
 module _ (t : Terms) (far : ℕ → ℕ → Float) (e : ℕ) (r : Repaired) where
-  pub no_donor : donor_to r.cells.tally r.cells.distortion t.cells ≡ Nowhere → repair_cell t far e r ≡ refused 15 (whole e ∷ [])
+  pub no_donor : donor_to r.cells.tally r.cells.distortion t.cells ≡ None → repair_cell t far e r ≡ refused 15 (whole e ∷ [])
   no_donor h = ap (repair_by t far e r) h
 
-  module _ (donor : ℕ) (norm : Float) (found : donor_to r.cells.tally r.cells.distortion t.cells ≡ At donor) (is : residual_norm t.dim (far donor) (r.cells.word donor) ≡ norm) where
+  module _ (donor : ℕ) (norm : Float) (found : donor_to r.cells.tally r.cells.distortion t.cells ≡ Some donor) (is : residual_norm t.dim (far donor) (r.cells.word donor) ≡ norm) where
     pub no_direction : le norm least_norm ≡ true → repair_cell t far e r ≡ refused 16 (whole donor ∷ [])
     no_direction h = ap (repair_by t far e r) found ∙ rw (is, h)
 

@@ -2,25 +2,23 @@
 // Every function here is public only for the crates above, which lend work of the right lengths.
 #![tactic(auto)]
 
-ghost use Rattle.std.specs.Prelude.{◌≡◌, ℕ, ◌<◌, ◌≤◌, length, ◌≢◌, slice_index, slice_index_or, Float};
-ghost use Rattle.std.specs.Float.{nan};
+ghost use Rattle.std.specs.Prelude.{◌≡◌, ℕ, ◌<◌, ◌≤◌, length, ◌≢◌, MatchOption, slice_index, Float};
 ghost use Rattle.lloyd_cells.specs.Repair.{Cells, Repaired, event_of};
 ghost use Rattle.lloyd_cells.specs.Work.{Fit, Kept, split_work, split_counts};
-ghost use Rattle.lloyd_repair.specs.Running.{terms_of, cells_in, Numbered, NumberIs, Running, ReadyRepairs, Chosen, Turned, BehindKept};
+ghost use Rattle.lloyd_repair.specs.Running.{terms_of, cells_in, Numbered, NumberAt, Running, ReadyRepairs, Chosen, Turned, BehindKept};
 
 use error::Refusal;
 use lloyd_cells::Places;
 use lloyd_events::LloydRepairEvent;
-use slices::First;
 
 // A residual of no larger norm has no direction: 2 ^ -52.
 const LEAST_NORM: f64 = 2.220446049250313e-16;
 
-// Where the numbers of the cells' farthest samples begin, and in which of the two works.
+// Where the numbers of the cells' farthest samples begin, in one of the two works.
 #[derive(Clone, Copy)]
-pub struct Numbers {
-    pub start: usize,
-    pub in_floats: bool,
+pub enum Numbers {
+    InFloats(usize),
+    InInts(usize),
 }
 
 // What the repairs of an update are told: coordinates and cells, what
@@ -35,41 +33,37 @@ pub struct RepairTerms {
     pub shown: usize,
 }
 
-// One turn: a repair and the cell whose turn is next, or no empty cell is left, or a refusal.
+// A repair: its event, and the cell whose turn is next.
 #[derive(Clone, Copy)]
-pub enum Turn {
-    Repair(LloydRepairEvent, usize),
-    Done,
-    Refused(Refusal),
+pub struct Repair {
+    pub event: LloydRepairEvent,
+    pub next: usize,
 }
 
 // The number that is held for a cell.
-fn number_at(work: &[f64], ints: &[u32], at: usize, in_floats: bool) -> usize
-    requires { Numbered in_floats at work.now ints.now }
-    ensures { (s : ℕ) → NumberIs in_floats (slice_index_or work.now at nan) (slice_index ints.now at) s
-        → result ≡ s }
+fn number_of(m: Numbers, work: &[f64], ints: &[u32], cell: usize) -> usize
+    requires { Numbered m cell work.now ints.now }
+    ensures { (s : ℕ) → NumberAt m work.now ints.now cell s → result ≡ s }
 {
-    if in_floats {
-        std::num::truncating_f64_to_u64(work[at]) as usize
-    } else {
-        ints[at] as usize
+    match m {
+        Numbers::InFloats(start) => { std::num::truncating_f64_to_u64(work[start + cell]) as usize }
+        Numbers::InInts(start) => ints[start + cell] as usize,
     }
 }
 
-// The first empty cell from `from` on, or n.
-fn next_empty(counts: &[u32], n: usize, from: usize) -> usize
-    requires { (n ≤ length counts.now) × (from ≤ n) }
-    ensures { (from ≤ result) × (result ≤ n) × ((c : ℕ) → from ≤ c → c < result → slice_index counts.now c ≢ 0)
-        × (result < n → slice_index counts.now result ≡ 0) }
+// The first empty cell from `from` on.
+fn next_empty(counts: &[u32], n: usize, from: usize) -> Option<usize>
+    requires { n ≤ length counts.now }
+    ensures { MatchOption result ((c : ℕ) → from ≤ c → c < n → slice_index counts.now c ≢ 0)
+        (λ e. (from ≤ e) × (e < n) × ((c : ℕ) → from ≤ c → c < e → slice_index counts.now c ≢ 0)
+        × (slice_index counts.now e ≡ 0)) }
 {
-    let mut c = from;
-    while c < n {
+    for c in from..n {
         if counts[c] == 0 {
-            return c;
+            return Some(c);
         }
-        c += 1usize;
     }
-    n
+    None
 }
 
 // The donor is split for the empty cell e. Answers with the event of that, which shows the donor as it stood.
@@ -119,7 +113,7 @@ fn repair_from(
     e: usize,
     donor: usize,
     used: usize,
-) -> Turn
+) -> Result<Option<Repair>, Refusal>
     requires ready { ReadyRepairs p m (terms_of t) samples.now used e work.old ints.old }
     requires chosen { Chosen p (terms_of t) e donor work.old ints.old }
     ensures turned { (far : ℕ → ℕ → Float) (start : Cells) (r : Repaired) → length r.events ≡ used
@@ -130,26 +124,26 @@ fn repair_from(
 {
     let k = t.dim;
     let free = t.free;
-    let held = m.start + donor;
-    let number = number_at(&*work, &*ints, held, m.in_floats);
+    let number = number_of(m, &*work, &*ints, donor);
     let at = number * k;
     let end = at + k;
     let far = &samples[at..end];
     let word = p.words + donor * k;
     let norm = lloyd_cells::residual_norm(&*work, word, far);
     if norm <= LEAST_NORM {
-        return Turn::Refused(Refusal::NoDirection(donor as u64));
+        return Err(Refusal::NoDirection(donor as u64));
     }
     if free <= used {
-        return Turn::Refused(Refusal::EventSlotsUsed(t.shown as u64));
+        return Err(Refusal::EventSlotsUsed(t.shown as u64));
     }
     let event = fill(work, ints, p, t, donor, e, far, norm);
     let next = e + 1;
-    Turn::Repair(event, next)
+    Ok(Some(Repair { event, next }))
 }
 
-// The next empty cell is repaired, if there is one and it can be. What stands in the work from its words on and in the
-// counts is for the next steps; where it is refused it is left for the end to zero.
+// The next empty cell is repaired, if there is one and it can be; none is left where no repair comes back. What stands
+// in the work from its words on and in the counts is for the next steps; where it is refused it is left for the end to
+// zero.
 pub fn repair_next(
     work: &mut [f64],
     ints: &mut [u32],
@@ -159,7 +153,7 @@ pub fn repair_next(
     t: RepairTerms,
     from: usize,
     used: usize,
-) -> Turn
+) -> Result<Option<Repair>, Refusal>
     requires { ReadyRepairs p m (terms_of t) samples.now used from work.old ints.old }
     ensures turned { (far : ℕ → ℕ → Float) (start : Cells) (r : Repaired) → length r.events ≡ used
         → Running p m (terms_of t) samples.now far start from r work.old ints.old
@@ -168,14 +162,11 @@ pub fn repair_next(
     ensures ints { BehindKept t.cells ints.old ints.new }
 {
     let n = t.cells;
-    let e = next_empty(&*ints, n, from);
-    if e == n {
-        return Turn::Done;
-    }
-    let distortions = p.distortions;
-    let found = lloyd_cells::choose_donor(&*ints, n, &*work, distortions);
-    let First::At(donor) = found else {
-        return Turn::Refused(Refusal::NoDonor(e as u64));
+    let Some(e) = next_empty(&*ints, n, from) else {
+        return Ok(None);
     };
+    let donor = lloyd_cells::choose_donor(&*ints, n, &*work, p.distortions).ok_or(Refusal::NoDonor(
+        e as u64,
+    ))?;
     repair_from(work, ints, samples, p, m, t, e, donor, used)
 }

@@ -14,13 +14,8 @@ pub fn copy_in(values: &[f64], work: &mut [f64], to: usize)
     ensures { work.new
         ≡ patched work.old to (length values.now) (λ i. get_or values.now i nan) }
 {
-    let mut i = 0usize;
-    let mut place = to;
-    while i < values.len() {
-        work[place] = values[i];
-        place += 1usize;
-        i += 1usize;
-    }
+    let end = to + values.len();
+    work[to..end].copy_from_slice(values);
 }
 
 // `count` values are copied from one part of the work to another.
@@ -30,52 +25,43 @@ pub fn copy_part(work: &mut [f64], from: usize, to: usize, count: usize)
     ensures { work.new
         ≡ patched work.old to count (λ i. get_or work.old (from + i) nan) }
 {
-    let mut i = 0usize;
-    let mut source = from;
-    let mut place = to;
-    while i < count {
-        work[place] = work[source];
-        source += 1usize;
-        place += 1usize;
-        i += 1usize;
-    }
+    let end = from + count;
+    work.copy_within(from..end, to);
 }
 
 // The codewords become the values of the work from `from` on, rounded to binary32.
+#[tactic(auto, using(slices::proofs::ListLaw::patched_more), unfolding(slices::specs::Lists::patched))]
 pub fn narrow_out(work: &[f64], from: usize, codewords: &mut [f32])
     requires { from + length codewords.old ≤ length work.now }
     ensures { codewords.new
         ≡ tabulate (length codewords.old)
         (λ i. narrow_to binary32 (get_or work.now (from + i) nan)) }
 {
-    let mut i = 0usize;
-    let mut source = from;
-    while i < codewords.len() {
-        codewords[i] = narrow::f64_to_f32(work[source]);
-        source += 1usize;
-        i += 1usize;
+    // Kept: an index beside iter_mut, since after a zip with it a proof knows nothing of what was written.
+    for (i, codeword) in codewords.iter_mut().enumerate() {
+        *codeword = narrow::f64_to_f32(work[from + i]);
     }
 }
 
 // The first values of the work become the n codewords, each rotated by the matrix.
+#[tactic(auto, using(crate::proofs::PartLaw::word_inside))]
 fn rotate_words(matrix: &[f64], initial: &[f64], work: &mut [f64], n: usize, k: usize)
     requires { (length matrix.now ≡ k * k) × (length initial.now ≡ n * k) × (n * k ≤ length work.old) }
     ensures { work.new
         ≡ patched work.old 0 (n * k)
         (λ i. applied_at k matrix.now (take k (drop (i / k * k) initial.now)) (i % k)) }
 {
-    let mut c = 0usize;
-    let mut at = 0usize;
-    while c < n {
+    // Kept: no chunks_exact, which k = 0 does not allow, and this contract does.
+    for c in 0..n {
+        let at = c * k;
         let end = at + k;
         rotation::rotate(matrix, &initial[at..end], &mut work[at..end]);
-        at = end;
-        c += 1usize;
     }
 }
 
 // Where a later restart starts: the initial codewords, rotated by
 // the restart's own matrix, the first lent being that of restart 1.
+#[tactic(auto, using(crate::proofs::PartLaw::word_inside, crate::proofs::PartLaw::word_length))]
 pub fn start_restart(
     initial: &[f64],
     matrices: &[f64],

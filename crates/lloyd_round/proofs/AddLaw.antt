@@ -1,7 +1,7 @@
 -- One sample more is added up: its cell, its distance, and the number of its cell's farthest sample. Assumes nothing.
 use mathlib.Core.Path.{◌≡◌, refl, sym, ap, ◌∙◌}
 use Prim.Native.Nat.{ℕ, suc, ◌+◌, ◌-◌, ◌*◌, ◌≤◌, ◌<◌}
-use native.Mathlib.Nat.{mul-le-mul}
+use native.Mathlib.Nat.{mul-le-mul, mul-le-mul_right, suc-mul}
 use native.Mathlib.Numerals.{add-one}
 use native.Mathlib.Omega.{arith}
 use native.Mathlib.Decide.{ℕ_discrete}
@@ -15,7 +15,7 @@ use Rattle.lloyd_search.specs.declared.Found.{Found}
 use Rattle.lloyd_search.specs.Distance.{distance, vector_of, row_of}
 use Rattle.lloyd_search.specs.Nearest.{nearest}
 use Rattle.lloyd_search.proofs.NearestLaw.{index_below}
-use Rattle.lloyd_search.proofs.Parts.{row_fits, part_length, part_row, distance_ext, nearest_ext}
+use Rattle.lloyd_search.proofs.Parts.{part_length, part_row, distance_ext, nearest_ext}
 use Rattle.lloyd_cells.specs.declared.Places.{Places}
 use Rattle.lloyd_cells.specs.Cells.{count_to, Farthest, farthest}
 use Rattle.lloyd_cells.specs.Work.{Fit, Kept, Gathered, gather_work}
@@ -27,6 +27,14 @@ use Rattle.lloyd_round.specs.Adding.{front, joins, join_work, join_ints, Addable
 -- the parts of the work
 pub shape : (n k L : ℕ) → 0 < k → L ≡ 3 * (n * k) + 2 * n → Fit (places_of n k) n k L
 shape n k L h e = record { some = h; words = omega arith; distortions = omega arith; farthest = omega arith }
+
+-- a row lies within its rows
+pub row_inside : (c n k : ℕ) → c < n → c * k + k ≤ n * k
+row_inside c n k h = let m : suc c * k ≤ n * k = mul-le-mul_right k h in omega (arith, m, suc-mul c k)
+
+-- the codeword that a search finds is one of them
+pub found_below : (n k : ℕ) (codebook : List Float) (x : ℕ → Float) → 0 < n → (nearest k n (row_of k codebook) x).index < n
+found_below n k codebook x h = index_below (λ i. distance k x (row_of k codebook i)) n h
 
 -- its places are small numbers
 pub places_small : (n k : ℕ) → n ≤ 1048576 → k ≤ 256 → 3 * (n * k) + n < 0x1_0000_0000_0000
@@ -141,19 +149,19 @@ module _ (n k : ℕ) (sample work : List Float) (near : Found) (is-near : near �
       joined_nearer t = sym (choice false t)
 
 -- ---- the next sample of a loop, after s of them
-module _ {n k S : ℕ} {samples work₀ : List Float} {ints₀ : List ℕ} (good : Roomy n k S samples work₀ ints₀) (s at : ℕ) (work : List Float) (ints : List ℕ) (below : s < S) (is_at : at ≡ s * k)
+module _ {n k S : ℕ} {samples work₀ : List Float} {ints₀ : List ℕ} (good : Roomy n k S samples work₀ ints₀) (s : ℕ) (work : List Float) (ints : List ℕ) (below : s < S)
     (size : length ints ≡ length ints₀) (kept : Kept (places_of n k) n k work₀ work) (g : Added k n S samples (front n k work₀) s work ints) where
   abbrev part : List Float
-  part = take (at + k - at) (drop at samples)
+  part = take (s * k + k - s * k) (drop (s * k) samples)
 
-  pub sample_fits : at + k ≤ length samples
-  sample_fits = row_fits s S k at (length samples) below is_at good.rows
+  sample_fits : s * k + k ≤ length samples
+  sample_fits = omega (arith, row_inside s S k below, good.rows)
 
   part-size : length part ≡ k
-  part-size = part_length samples s k at is_at sample_fits
+  part-size = part_length samples s k (s * k) refl sample_fits
 
   part_is : (j : ℕ) → j < k → vector_of part j ≡ row_of k samples s j
-  part_is = part_row samples s k at is_at
+  part_is = part_row samples s k (s * k) refl
 
   fit : Fit (places_of n k) n k (length work)
   fit = shape n k (length work) good.some (kept.size ∙ good.floats)
@@ -161,7 +169,7 @@ module _ {n k S : ℕ} {samples work₀ : List Float} {ints₀ : List ℕ} (good
   same_front : front n k work ≡ front n k work₀
   same_front = front_same n k work₀ work (omega (arith, good.floats)) kept.size (λ i l. kept.below i (omega arith))
 
-  pub addable : Addable n (length (take (at + k - at) (drop at samples))) s work ints
+  pub addable : Addable n (length (take (s * k + k - s * k) (drop (s * k) samples))) s work ints
   addable = rw part-size (record {
     some = good.some;
     least = good.least;
@@ -173,14 +181,14 @@ module _ {n k S : ℕ} {samples work₀ : List Float} {ints₀ : List ℕ} (good
     counts = λ c l. omega (arith, g.gathered.tally c l, count_to_upto (cell_of k n S samples (front n k work₀)) c s);
   })
 
-  module _ (after : List Float) (is-after : after ≡ join_work n (length (take (at + k - at) (drop at samples))) (take (at + k - at) (drop at samples)) work) where
+  module _ (after : List Float) (is-after : after ≡ join_work n (length (take (s * k + k - s * k) (drop (s * k) samples))) (take (s * k + k - s * k) (drop (s * k) samples)) work) where
     joined : after ≡ join_work n k part work
     joined = is-after ∙ ap (λ (z : ℕ). join_work n z part work) part-size
 
     pub next_kept : Kept (places_of n k) n k work₀ after
     next_kept = kept_trans (places_of n k) n k work₀ work after kept (rw joined (join_kept k n S samples s part work below part_is good.any fit))
 
-    pub next_added : (left : List ℕ) → left ≡ join_ints n (length (take (at + k - at) (drop at samples))) (take (at + k - at) (drop at samples)) work s ints
+    pub next_added : (left : List ℕ) → left ≡ join_ints n (length (take (s * k + k - s * k) (drop (s * k) samples))) (take (s * k + k - s * k) (drop (s * k) samples)) work s ints
         → Added k n S samples (front n k work₀) (s + 1) after left
     next_added left e =
         rw (joined, e, part-size, ← same_front)

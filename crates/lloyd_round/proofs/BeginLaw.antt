@@ -3,23 +3,18 @@ use mathlib.Core.Path.{◌≡◌, refl, sym, ap, ◌∙◌}
 use Prim.Native.Nat.{ℕ, ◌+◌, ◌*◌, ◌≤◌, ◌<◌}
 use native.Mathlib.Nat.{zero-add, mul-le-mul_right}
 use native.Mathlib.Omega.{arith}
-use mathlib.Core.Bool.{true}
 use mathlib.Core.List.{List}
-use lib.Arith.{digits_lt}
-use lib.IntN.{pos}
 use lib.ListN.{length, get_or, replicate, get_or-replicate}
 use lib.Seq.{get_or-take, length-take-le, ext_get_or}
-use lib.Ieee.{Float, nan, fin}
-use Rattle.ieee.specs.Sum.{plus_zero}
-use Rattle.slices.specs.Lists.{patched}
-use Rattle.slices.proofs.ListLaw.{patched_below, patched_inside, length-patched}
+use lib.Ieee.{Float, nan}
 use Rattle.lloyd_search.specs.Distance.{row_of}
 use Rattle.lloyd_cells.specs.declared.Places.{Places}
 use Rattle.lloyd_cells.specs.Cells.{farthest}
 use Rattle.lloyd_cells.specs.Repair.{Terms, repair_to}
-use Rattle.lloyd_cells.specs.Work.{Fit, Kept, Held, means_to}
+use Rattle.lloyd_cells.specs.Work.{cleared, Fit, Kept, Held, means_to}
 use Rattle.lloyd_cells.proofs.CellsLaw.{count_to_upto, farthest_within}
-use Rattle.lloyd_cells.proofs.WorkLaw.{gathered_start, held_means, means_kept}
+use Rattle.lloyd_cells.proofs.WorkLaw.{held_means, means_kept}
+use Rattle.lloyd_cells.proofs.ClearLaw.{cleared_size, cleared_below, cleared_gathered}
 use Rattle.lloyd_repair.specs.Running.{HoldsFarthest}
 use Rattle.lloyd_round.specs.Round.{cell_of, means_of, far_of, places_of, numbers_of, Holding, Roomy, AtFirst}
 use Rattle.lloyd_round.specs.Adding.{front, distance_of, Added}
@@ -39,47 +34,28 @@ same_room n k S samples work₀ work ints₀ ints r floats integers = record {
 }
 
 -- ---- nothing is added up yet
-module _ {n k S : ℕ} {samples work₀ : List Float} {ints₀ : List ℕ} (good : Roomy n k S samples work₀ ints₀) (work : List Float) (ints : List ℕ)
-    (is-work : work ≡ patched (patched work₀ (2 * (n * k)) (n * k + n) (λ i. plus_zero)) (3 * (n * k) + n) n (λ i. fin true 1 (pos 0))) (is-ints : ints ≡ replicate (2 * n) 0) where
-  abbrev zeroed : List Float
-  zeroed = patched work₀ (2 * (n * k)) (n * k + n) (λ i. plus_zero)
+module _ {n k S : ℕ} {samples work₀ : List Float} {ints₀ : List ℕ} (good : Roomy n k S samples work₀ ints₀) (p : Places) (is-p : p ≡ places_of n k) (work : List Float) (ints : List ℕ)
+    (is-work : work ≡ cleared p n work₀) (is-ints : ints ≡ replicate (length ints₀) 0) where
+  fits : Fit (places_of n k) n k (length work₀)
+  fits = shape n k (length work₀) good.some good.floats
 
-  zeroed_size : length zeroed ≡ length work₀
-  zeroed_size = length-patched work₀ (2 * (n * k)) (n * k + n) (λ i. plus_zero)
-
-  cleared_size : length work ≡ length work₀
-  cleared_size = ap length is-work ∙ length-patched zeroed (3 * (n * k) + n) n (λ i. fin true 1 (pos 0)) ∙ zeroed_size
-
-  pub cleared_below : (i : ℕ) → i < 2 * (n * k) → get_or work i nan ≡ get_or work₀ i nan
-  cleared_below i l =
-      ap (λ (z : List Float). get_or z i nan) is-work ∙ patched_below zeroed (3 * (n * k) + n) n (λ j. fin true 1 (pos 0)) i nan (omega arith)
-      ∙ patched_below work₀ (2 * (n * k)) (n * k + n) (λ j. plus_zero) i nan l
-
-  zeros : (i : ℕ) → i < n * k + n → get_or work (2 * (n * k) + i) nan ≡ plus_zero
-  zeros i l =
-      ap (λ (z : List Float). get_or z (2 * (n * k) + i) nan) is-work ∙ patched_below zeroed (3 * (n * k) + n) n (λ j. fin true 1 (pos 0)) (2 * (n * k) + i) nan (omega arith)
-      ∙ patched_inside work₀ (2 * (n * k)) (n * k + n) (λ j. plus_zero) i nan (omega (arith, good.floats)) l
-
-  least : (i : ℕ) → i < n → get_or work (3 * (n * k) + n + i) nan ≡ fin true 1 (pos 0)
-  least i l =
-      ap (λ (z : List Float). get_or z (3 * (n * k) + n + i) nan) is-work
-      ∙ patched_inside zeroed (3 * (n * k) + n) n (λ j. fin true 1 (pos 0)) i nan (omega (arith, good.floats, zeroed_size)) l
+  is : work ≡ cleared (places_of n k) n work₀
+  is = is-work ∙ ap (λ (q : Places). cleared q n work₀) is-p
 
   none : (i : ℕ) → i < 2 * n → get_or ints i 0 ≡ 0
-  none i l = ap (λ (z : List ℕ). get_or z i 0) is-ints ∙ get_or-replicate (2 * n) i 0 0 l
+  none i l = ap (λ (z : List ℕ). get_or z i 0) is-ints ∙ get_or-replicate (length ints₀) i 0 0 (omega (arith, good.integers))
+
+  pub untouched : (i : ℕ) → i < 2 * (n * k) → get_or work i nan ≡ get_or work₀ i nan
+  untouched = cleared_below (places_of n k) n k work₀ work fits is
 
   pub cleared_front : front n k work ≡ front n k work₀
-  cleared_front = front_same n k work₀ work (omega (arith, good.floats)) cleared_size (λ i l. cleared_below i (omega arith))
+  cleared_front = front_same n k work₀ work (omega (arith, good.floats)) (cleared_size (places_of n k) n k work₀ work fits is) (λ i l. untouched i (omega arith))
 
-  pub cleared : (codebook : List Float) → Added k n S samples codebook 0 work ints
+  pub none_added : (codebook : List Float) → Added k n S samples codebook 0 work ints
   unfolding farthest
-  cleared codebook = record {
+  none_added codebook = record {
     gathered =
-        gathered_start (places_of n k) n k (cell_of k n S samples codebook) (row_of k samples) (distance_of k n S samples codebook) work ints
-        (λ i j l m. let r = digits_lt l m in zeros (i * k + j) (omega arith))
-        (λ i l. let e : 3 * (n * k) + i ≡ 2 * (n * k) + (n * k + i) = omega arith in ap (λ (z : ℕ). get_or work z nan) e ∙ zeros (n * k + i) (omega arith))
-        least
-        (λ i l. none i (omega arith));
+        cleared_gathered (places_of n k) n k work₀ work fits is (cell_of k n S samples codebook) (row_of k samples) (distance_of k n S samples codebook) ints (λ i l. none i (omega arith));
     numbers = λ i l. none (n + i) (omega arith);
   }
 

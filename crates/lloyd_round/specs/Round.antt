@@ -1,6 +1,6 @@
 -- A round of refinement: every sample goes to its nearest codeword, and the cells are what an update makes of that.
 -- Definitions only.
-use Rattle.std.specs.Prelude.{◌≡◌, ℕ, ◌+◌, ◌*◌, ◌≤◌, ◌<◌, false, List, [], length, get_or, Float}
+use Rattle.std.specs.Prelude.{◌≡◌, ℕ, ◌+◌, ◌*◌, ◌≤◌, ◌<◌, List, [], length, get_or, Float}
 use Rattle.std.specs.Float.{nan}
 use Rattle.slices.specs.Lists.{tabulate}
 use Rattle.lloyd_search.specs.Distance.{row_of}
@@ -10,6 +10,7 @@ use Rattle.lloyd_cells.specs.Repair.{Cells, Terms}
 use Rattle.lloyd_cells.specs.Update.{means, farthest_sample}
 use Rattle.lloyd_cells.specs.Work.{places_at}
 use Rattle.lloyd_repair.specs.declared.Numbers.{Numbers}
+use Rattle.lloyd_repair.specs.declared.Numbers.TheVariants.{InInts}
 use Rattle.lloyd_repair.specs.Running.{Running}
 
 -- S samples of k coordinates against n codewords
@@ -36,7 +37,7 @@ places_of n k = places_at (2 * (n * k)) (3 * (n * k)) n
 
 -- Integers: the counts, then the numbers of the farthest samples.
 abbrev pub numbers_of : ℕ → Numbers
-numbers_of n = record { start = n; in_floats = false }
+numbers_of n = InInts n
 
 -- a codebook of n codewords of k coordinates stands in the float work from `at` on
 pub record Holding (n k at : ℕ) (codebook work : List Float) : Type 0 where

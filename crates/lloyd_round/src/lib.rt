@@ -3,10 +3,8 @@
 // The public functions are public only for the crates above, which lend work of the right lengths.
 #![tactic(auto)]
 
-ghost use Rattle.std.specs.Prelude.{◌≡◌, true, List, ℕ, ◌+◌, ◌*◌, ◌≤◌, ◌<◌, pos, length, get_or, replicate, Float};
-ghost use Rattle.std.specs.Float.{fin, nan};
-ghost use Rattle.ieee.specs.Sum.{plus_zero};
-ghost use Rattle.slices.specs.Lists.{patched};
+ghost use Rattle.std.specs.Prelude.{◌≡◌, List, ℕ, ◌+◌, ◌*◌, ◌≤◌, ◌<◌, length, get_or, Float};
+ghost use Rattle.std.specs.Float.{nan};
 ghost use Rattle.lloyd_search.specs.Distance.{vector_of};
 ghost use Rattle.lloyd_cells.specs.Repair.{Terms};
 ghost use Rattle.lloyd_cells.specs.Work.{Kept};
@@ -24,36 +22,9 @@ pub fn places(n: usize, k: usize) -> Places
     Places::at(2 * (n * k), 3 * (n * k), n)
 }
 
-// The values from `at` on become x.
-fn fill(work: &mut [f64], at: usize, count: usize, x: f64)
-    requires { at + count ≤ length work.old }
-    ensures { work.new ≡ patched work.old at count (λ i. x) }
-{
-    let mut c = 0usize;
-    let mut i = at;
-    while c < count {
-        work[i] = x;
-        i += 1usize;
-        c += 1usize;
-    }
-}
-
-// Nothing is added up yet: zeros, and farthest distances below every distance.
-fn clear(work: &mut [f64], ints: &mut [u32], n: usize, k: usize)
-    requires { (0 < k) × (length work.old ≡ 3 * (n * k) + 2 * n) × (length ints.old ≡ 2 * n) }
-    ensures work { work.new
-        ≡ patched (patched work.old (2 * (n * k)) (n * k + n) (λ i. plus_zero)) (3 * (n * k) + n) n
-        (λ i. fin true 1 (pos 0)) }
-    ensures ints { ints.new ≡ replicate (2 * n) 0 }
-{
-    let words = n * k;
-    fill(&mut *work, 2 * words, words + n, 0.0);
-    fill(&mut *work, 3 * words + n, n, -1.0);
-    slices::zero_u32(ints);
-}
-
 // The number of a sample's nearest codeword, and its distance to that. Where no distance is below infinity, the search's
 // own is infinity, and the distance is worked out once more.
+#[tactic(auto, using(crate::proofs::AddLaw::found_below, crate::proofs::AddLaw::row_inside))]
 fn nearest_cell(work: &[f64], n: usize, sample: &[f64]) -> Found
     requires { (0 < n) × (n * length sample.now ≤ length work.now) }
     ensures { result ≡ nearest_in n (length sample.now)
@@ -75,6 +46,7 @@ fn nearest_cell(work: &[f64], n: usize, sample: &[f64]) -> Found
 }
 
 // Sample number s is added to the cell of its nearest codeword, and noted where it is the farthest there so far.
+#[tactic(auto, using(crate::proofs::AddLaw::places_small, crate::proofs::AddLaw::near_below, crate::proofs::AddLaw::shape))]
 fn add_sample(work: &mut [f64], ints: &mut [u32], n: usize, sample: &[f64], s: usize)
     requires { Addable n (length sample.now) s work.old ints.old }
     ensures work { work.new
@@ -93,6 +65,7 @@ fn add_sample(work: &mut [f64], ints: &mut [u32], n: usize, sample: &[f64], s: u
 }
 
 // Every sample is added up.
+#[tactic(auto, using(crate::proofs::AddLaw::row_inside))]
 fn add_samples(
     samples: &[f64],
     work: &mut [f64],
@@ -107,18 +80,17 @@ fn add_samples(
         work.new ints.new }
     ensures kept { Kept (places_of n k) n k work.old work.new }
 {
-    let mut s = 0usize;
-    let mut at = 0usize;
-    while s < count {
+    // Kept: no chunks_exact, since the contract counts the samples by `count`, which chunks would leave unread.
+    for s in 0..count {
+        let at = s * k;
         let end = at + k;
         add_sample(&mut *work, &mut *ints, n, &samples[at..end], s);
-        at = end;
-        s += 1usize;
     }
 }
 
 // The samples go to their nearest codewords (the codebook at the front of the float work), are added up, and the cells
 // get their means. Nothing below the words is touched; what else stands in the work is for the next steps.
+#[tactic(auto, using(crate::proofs::AddLaw::places_small, crate::proofs::AddLaw::shape))]
 pub fn begin_round(
     samples: &[f64],
     work: &mut [f64],
@@ -135,7 +107,8 @@ pub fn begin_round(
         × ((i : ℕ) → i < 2 * (n * k) → get_or work.new i nan ≡ get_or work.old i nan)
         × (length ints.new ≡ length ints.old) }
 {
-    clear(&mut *work, &mut *ints, n, k);
+    let p = places(n, k);
+    lloyd_cells::clear(&mut *work, &mut *ints, p, n);
     add_samples(samples, &mut *work, &mut *ints, n, k, count);
-    lloyd_cells::means(work, &*ints, places(n, k), n, k);
+    lloyd_cells::means(work, &*ints, p, n, k);
 }

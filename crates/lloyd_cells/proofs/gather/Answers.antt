@@ -2,10 +2,10 @@
 -- apart from the sums, so that the test is of the first one. Assumes nothing.
 use mathlib.Core.Path.{◌≡◌, refl, sym, ap, ◌∙◌}
 use mathlib.Core.Bool.{true, false}
-use Prim.Native.Nat.{ℕ, ◌+◌, ◌*◌, ◌≤◌, ◌<◌}
+use Prim.Native.Nat.{ℕ, ◌+◌, ◌*◌, ◌<◌}
 use native.Mathlib.Omega.{arith}
 use mathlib.Core.List.{List}
-use lib.ListN.{length, get_or, set, length-set}
+use lib.ListN.{length, get_or, set}
 use lib.Seq.{get_or-set_other}
 use lib.Ieee.{Float, nan, binary64, add, lt}
 use Rattle.slices.specs.Lists.{patched}
@@ -13,7 +13,7 @@ use Rattle.slices.proofs.ListLaw.{patched_above}
 use Rattle.lloyd_search.specs.Distance.{vector_of}
 use Rattle.lloyd_cells.specs.declared.Places.{Places}
 use Rattle.lloyd_cells.specs.Work.{Fit, gather_work}
-use Rattle.lloyd_cells.proofs.FitLaw.{word_fits, word_within}
+use Rattle.lloyd_cells.proofs.FitLaw.{word_fits}
 use Rattle.lloyd_cells.proofs.gather.Goals as goal
 
 -- a sample's coordinates are added to the word of its cell
@@ -39,36 +39,6 @@ module _ (p : Places) (n cell : ℕ) (sample : List Float) (d : Float) (w v : Li
 
   no_farther : lt (get_or (added p cell d v) (p.farthest + cell) nan) d ≡ false → (false ≡ lt (get_or w (p.farthest + cell) nan) d) × (added p cell d v ≡ gather_work p (length sample) cell sample d w)
   no_farther t = (sym t ∙ ap (λ (x : Float). lt x d) kept, rw (← e, t))
-
-pub overflow_mul-at : goal.overflow_mul-at
-overflow_mul-at c =
-    let word : let a = c.args in
-    a.p.words + a.cell * length a.sample.now + length a.sample.now ≤ length a.work.now =
-    let s = c in
-    word_within s.args.p s.args.n (length s.args.sample.now) (length s.args.work.now) s.args.cell s.requires.3 s.requires.0 in
-    omega (arith, word)
-
-pub overflow_add-at : goal.overflow_add-at
-overflow_add-at c =
-    let word : let a = c.args in
-    a.p.words + a.cell * length a.sample.now + length a.sample.now ≤ length a.work.now =
-    let s = c in
-    word_within s.args.p s.args.n (length s.args.sample.now) (length s.args.work.now) s.args.cell s.requires.3 s.requires.0 in
-    omega (arith, word)
-
-pub add_to-requires : goal.add_to-requires
-add_to-requires c =
-    let word : let a = c.args in
-    a.p.words + a.cell * length a.sample.now + length a.sample.now ≤ length a.work.now =
-    let s = c in
-    word_within s.args.p s.args.n (length s.args.sample.now) (length s.args.work.now) s.args.cell s.requires.3 s.requires.0 in
-    omega (arith, word)
-
-pub bounds-work-best : goal.bounds-work-best
-bounds-work-best c = simp length-set (omega arith)
-
-pub bounds-work-best-then-work-best : goal.bounds-work-best-then-work-best
-bounds-work-best-then-work-best c = simp length-set (omega arith)
 
 pub returns-then-work-best : goal.returns-then-work-best
 returns-then-work-best c =

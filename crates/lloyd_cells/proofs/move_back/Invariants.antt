@@ -1,8 +1,7 @@
-use mathlib.Core.Path.{◌≡◌}
-use Prim.Native.Nat.{ℕ, ◌≤◌, ◌-◌, ◌+◌}
-use mathlib.Core.List.{List}
-use lib.ListN.{length, get_or}
-use lib.Ieee.{Float, nan, binary64, sub}
+use Rattle.std.proofs.Common.{◌≡◌, ℕ, ◌+◌, get_or, List}
+use Rattle.std.specs.Prelude.{Float}
+use Rattle.std.specs.Float.{nan, binary64}
+use Rattle.std.specs.Float.Ieee.{sub}
 use Rattle.slices.specs.Lists.{patched}
 use Rattle.lloyd_search.specs.Distance.{vector_of}
 use Rattle.lloyd_cells.specs.Repair.{shift}
@@ -12,8 +11,4 @@ abbrev pub moved_at : List Float → ℕ → List Float → Float → ℕ → Fl
 moved_at work donor far norm j = sub binary64 (get_or work (donor + j) nan) (shift (vector_of far j) (get_or work (donor + j) nan) norm)
 
 abbrev pub invariant-loop-j : goal.invariant-loop-j
-invariant-loop-j l =
-    (l.j ≤ length l.far) × (l.d ≡ l.donor + l.j) × (length l.work ≡ length l.initial.work) × (l.work ≡ patched l.initial.work l.donor l.j (moved_at l.initial.work l.donor l.far l.norm))
-
-abbrev pub decreases-loop-j : goal.decreases-loop-j
-decreases-loop-j l = length l.far - l.j
+invariant-loop-j l = l.word-items ≡ patched l.initial.word-items 0 l.j (moved_at l.fn.work l.donor l.far l.norm)

@@ -1,69 +1,57 @@
 -- `lloyd_repair::repair_next` meets its contract: the cells passed over are not empty. Assumes nothing.
-use Rattle.std.proofs.Common.{◌≡◌, ℕ, ◌+◌, ◌<◌, get_or, arith}
-use lib.Ieee.{Float, nan}
-use Rattle.slices.specs.declared.First.{First}
-use Rattle.slices.specs.declared.First.TheVariants.{Nowhere}
-use Rattle.lloyd_cells.specs.Repair.{Cells, Repaired, donor_to}
+use Rattle.std.proofs.Common.{◌≡◌, ℕ, ◌∙◌, List, sym, ap, arith, Option, None, Some, Result, Ok, Err}
+use Rattle.std.specs.Option.{ok_or}
+use Rattle.std.specs.Result.{IsErrAnd, result_ok}
+use lib.Ieee.{Float}
+use Rattle.error.specs.Numbers.{refusal}
+use Rattle.error.specs.declared.Refusal.{Refusal}
+use Rattle.lloyd_cells.specs.declared.Places.{Places}
+use Rattle.lloyd_cells.specs.Repair.{Cells, Terms, Repaired, repair_to}
 use Rattle.lloyd_cells.proofs.WorkLaw.{kept_refl}
-use Rattle.lloyd_repair.specs.Running.{terms_of, Running}
+use Rattle.lloyd_repair.specs.declared.Numbers.{Numbers}
+use Rattle.lloyd_repair.specs.declared.Repair.{Repair}
+use Rattle.lloyd_repair.specs.Running.{terms_of, Turned}
 use Rattle.lloyd_repair.proofs.RepairLaw.{behind_refl, passed, none_gives}
 use Rattle.lloyd_repair.proofs.repair_next.Goals as goal
 
-pub returns-then-e-n : goal.returns-then-e-n
-returns-then-e-n c =
-    let Runs : ℕ → (ℕ → ℕ → Float) → Cells → Repaired → Type 0 =
-    λ next far start r. Running c.args.p c.args.m (terms_of c.args.t) c.args.samples.now far start next r c.args.work.now c.args.ints.now in
-    let s = c in
-    let a = s.args in
-    let h = c.next_empty-e.ensures in record {
-      turned = λ far start r len run.
-          let all : Runs a.t.cells far start r = passed run a.t.cells run.reached (omega arith) (λ i u v. h.2 i u (omega (arith, c.if-e-n.true))) in
-          (all.came, all);
+pub returns-in_default : goal.returns-in_default
+returns-in_default c =
+    let a = c.args in
+    let h = rw c.in_default.is at c.next_empty.ensures in record {
+      turned = λ far start r len run. let all = passed run a.t.cells run.reached (omega arith) h in (all.came, all);
       kept = kept_refl a.p a.t.cells a.t.dim a.work.now;
       ints = behind_refl a.t.cells a.ints.now;
     }
 
-pub returns-in_default : goal.returns-in_default
-returns-in_default c =
-    let is_below : c.next_empty-e.result < c.args.t.cells =
-    omega (arith, c.next_empty-e.ensures.1, c.if-e-n.false) in
-    let shown : (f : First) → c.choose_donor-found.result ≡ f
-    → let a = c.args in donor_to (λ i. get_or a.ints.now i 0) (λ i. get_or a.work.now (a.p.distortions + i) nan) a.t.cells ≡ f =
-    λ f h. rw c.choose_donor-found.ensures at h in
-    let d = c in
-    let i = d in
-    let b = i in
-    let a = b.args in
-    let h = b.next_empty-e.ensures in record {
-      turned = λ far start r len run.
-          none_gives run b.next_empty-e.result h.0 h.1 h.2 (is_below) (h.3 (is_below)) (shown Nowhere c.in_default.is);
-      kept = kept_refl a.p a.t.cells a.t.dim a.work.now;
-      ints = behind_refl a.t.cells a.ints.now;
-    }
+-- what is handed on is the refusal that the repairs come to
+refused : (p : Places) (m : Numbers) (t : Terms) (samples : List Float) (far : ℕ → ℕ → Float) (start : Cells) (r : Repaired) (work : List Float) (ints : List ℕ)
+    → (y : Result (Option Repair) Refusal) (x : Refusal) → IsErrAnd y (λ e. e ≡ x) → repair_to t far start t.cells ≡ refusal x → Turned p m t samples far start r work ints y
+refused p m t samples far start r work ints (Ok o) x h e = absurd h
+refused p m t samples far start r work ints (Err z) x h e = e ∙ sym (ap refusal h)
+
+-- none was found: the refusal names the empty cell
+no_donor : (found : Option ℕ) (x y : Refusal) → found ≡ None → ok_or found x ≡ Err y → x ≡ y
+no_donor None x y e h = cc
+no_donor (Some c) x y e h = cc
+
+pub returns-in_err-donor-clause-turned : goal.returns-in_err-donor-clause-turned
+returns-in_err-donor-clause-turned c = λ far start r len run.
+    let a = c.args in
+    let h = c.in-Some.ensures in
+    let none = c.ok_or.ensures.ok_part ∙ ap result_ok c.in_err-donor.was in
+    let names = no_donor c.choose_donor.result _ _ none (sym c.ok_or.ensures.value ∙ c.in_err-donor.was) in
+    refused a.p a.m (terms_of a.t) a.samples.now far start r a.work.now a.ints.now _ _ c.from_residual.ensures.1
+    (none_gives run c.in-Some.e h.0 (omega arith) h.2 h.1 h.3 (sym c.choose_donor.ensures ∙ none) ∙ ap refusal names)
 
 pub repair_from-requires : goal.repair_from-requires
 repair_from-requires c =
-    let Runs : ℕ → (ℕ → ℕ → Float) → Cells → Repaired → Type 0 =
-    λ next far start r. Running c.args.p c.args.m (terms_of c.args.t) c.args.samples.now far start next r c.args.work.now c.args.ints.now in
-    let at-empty : (far : ℕ → ℕ → Float) (start : Cells) (r : Repaired) → Runs c.args.from far start r → Runs c.next_empty-e.result far start r =
-    λ far start r run. let h = c.next_empty-e.ensures in passed run c.next_empty-e.result h.0 h.1 h.2 in
-    let is_below : c.next_empty-e.result < c.args.t.cells =
-    omega (arith, c.next_empty-e.ensures.1, c.if-e-n.false) in
-    let shown : (f : First) → c.choose_donor-found.result ≡ f
-    → let a = c.args in donor_to (λ i. get_or a.ints.now i 0) (λ i. get_or a.work.now (a.p.distortions + i) nan) a.t.cells ≡ f =
-    λ f h. rw c.choose_donor-found.ensures at h in
-    let f = c in
-    let d = f in
-    let i = d in
-    let b = i in
-    let s = b in record { ready = record { far = s.requires.far; start = s.requires.start; r = s.requires.r; events = s.requires.events; running = at-empty s.requires.far s.requires.start s.requires.r s.requires.running }; chosen = record { below = is_below; empty = b.next_empty-e.ensures.3 (is_below); shows = shown _ f.in-At.is } }
+    let h = c.in-Some.ensures in
+    let s = c.requires in record {
+      ready = record { far = s.far; start = s.start; r = s.r; events = s.events; running = passed s.running c.in-Some.e h.0 (omega arith) h.2 };
+      chosen = record { below = h.1; empty = h.3; shows = sym c.choose_donor.ensures ∙ c.ok_or.ensures.ok_part ∙ ap result_ok c.in_ok-donor.was };
+    }
 
 pub returns : goal.returns
 returns c =
-    let Runs : ℕ → (ℕ → ℕ → Float) → Cells → Repaired → Type 0 =
-    λ next far start r. Running c.args.p c.args.m (terms_of c.args.t) c.args.samples.now far start next r c.args.work.now c.args.ints.now in
-    let at-empty : (far : ℕ → ℕ → Float) (start : Cells) (r : Repaired) → Runs c.args.from far start r → Runs c.next_empty-e.result far start r =
-    λ far start r run. let h = c.next_empty-e.ensures in passed run c.next_empty-e.result h.0 h.1 h.2 in
-    let o = c in
-    let b = o in
-    record { turned = λ far start r len run. o.repair_from.ensures.turned far start r len (at-empty far start r run); kept = o.repair_from.ensures.kept; ints = o.repair_from.ensures.ints }
+    let h = c.in-Some.ensures in
+    record { turned = λ far start r len run. c.repair_from.ensures.turned far start r len (passed run c.in-Some.e h.0 (omega arith) h.2); kept = c.repair_from.ensures.kept; ints = c.repair_from.ensures.ints }

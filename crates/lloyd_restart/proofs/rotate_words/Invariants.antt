@@ -1,10 +1,7 @@
-use mathlib.Core.Path.{◌≡◌}
-use Prim.Native.Nat.{◌≤◌, ◌-◌, ◌*◌}
-use Rattle.lloyd_restart.proofs.PartLaw.{Rotated}
+use Rattle.std.proofs.Common.{◌≡◌, ◌*◌}
+use Rattle.slices.specs.Lists.{patched}
+use Rattle.lloyd_restart.proofs.PartLaw.{word_at}
 use Rattle.lloyd_restart.proofs.rotate_words.Given as goal
 
 abbrev pub invariant-loop-c : goal.invariant-loop-c
-invariant-loop-c l = (l.c ≤ l.n) × (l.at ≡ l.c * l.k) × Rotated l.k l.matrix l.initial' l.initial.work l.c l.work
-
-abbrev pub decreases-loop-c : goal.decreases-loop-c
-decreases-loop-c l = l.n - l.c
+invariant-loop-c l = l.work ≡ patched l.fn.work 0 (l.c * l.k) (word_at l.k l.matrix l.initial')

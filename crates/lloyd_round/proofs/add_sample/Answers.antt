@@ -8,14 +8,8 @@ use lib.Ieee.{nan, lt}
 use Rattle.lloyd_cells.specs.declared.Places.{Places}
 use Rattle.lloyd_cells.specs.Work.{Fit}
 use Rattle.lloyd_round.specs.Adding.{join_work}
-use Rattle.lloyd_round.proofs.AddLaw.{shape, places_small, near_below, joined_work, joined_farther, joined_nearer}
+use Rattle.lloyd_round.proofs.AddLaw.{shape, near_below, joined_work, joined_farther, joined_nearer}
 use Rattle.lloyd_round.proofs.add_sample.Goals as goal
-
-pub places-p-requires : goal.places-p-requires
-places-p-requires c =
-    let dim : ℕ =
-    length c.args.sample.now in
-    let s = c in places_small s.args.n (dim) s.requires.most s.requires.least
 
 pub gather-requires : goal.gather-requires
 gather-requires c =
@@ -32,37 +26,6 @@ gather-requires c =
       omega (arith, s.requires.counts q.nearest_cell-near.result.index (cell_below), s.requires.few),
       subst (λ (p : Places). Fit p a.n (dim) (length a.work.now)) (sym q.places-p.ensures) (shape a.n (dim) (length a.work.now) s.requires.some s.requires.floats),
     )
-
-pub overflow_add-number : goal.overflow_add-number
-overflow_add-number c =
-    let dim : ℕ =
-    length c.args.sample.now in
-    let cell_below : c.nearest_cell-near.result.index < c.args.n =
-    let s = c in
-    near_below s.args.n (dim) s.args.sample.now s.args.work.now c.nearest_cell-near.result c.nearest_cell-near.ensures s.requires.any in
-    let q = c in omega (arith, cell_below, q.requires.most)
-
-pub offset_bounds-ints-number : goal.offset_bounds-ints-number
-offset_bounds-ints-number c =
-    let dim : ℕ =
-    length c.args.sample.now in
-    let cell_below : c.nearest_cell-near.result.index < c.args.n =
-    let s = c in
-    near_below s.args.n (dim) s.args.sample.now s.args.work.now c.nearest_cell-near.result c.nearest_cell-near.ensures s.requires.any in
-    let q = c in omega (arith, cell_below, q.requires.most)
-
-pub bounds-ints-number : goal.bounds-ints-number
-bounds-ints-number c =
-    let dim : ℕ =
-    length c.args.sample.now in
-    let cell_below : c.nearest_cell-near.result.index < c.args.n =
-    let s = c in
-    near_below s.args.n (dim) s.args.sample.now s.args.work.now c.nearest_cell-near.result c.nearest_cell-near.ensures s.requires.any in
-    let left-size : length c.gather.new.counts ≡ length c.args.ints.now =
-    c.gather.auto.counts in
-    let g = c in
-    let q = g in
-    omega (arith, cell_below, left-size, q.requires.integers)
 
 pub returns-then-gather : goal.returns-then-gather
 returns-then-gather c =

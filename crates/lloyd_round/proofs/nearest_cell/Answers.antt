@@ -1,7 +1,7 @@
 -- `lloyd_round::nearest_cell` meets its contract: a distance found below infinity is that of its codeword; and the index
 -- found is below n, so that its codeword lies within the codebook. Assumes nothing.
 use mathlib.Core.Path.{◌≡◌, refl, sym, ap, ◌∙◌, subst}
-use Prim.Native.Nat.{ℕ, ◌≤◌, ◌<◌, ◌+◌, ◌*◌}
+use Prim.Native.Nat.{ℕ, ◌<◌, ◌*◌}
 use native.Mathlib.Omega.{arith}
 use mathlib.Core.Bool.{false}
 use mathlib.Core.List.{List}
@@ -14,37 +14,50 @@ use Rattle.lloyd_search.specs.declared.Found.{Found}
 use Rattle.lloyd_search.specs.declared.Choice.{Choice}
 use Rattle.lloyd_search.specs.Distance.{distance, vector_of, row_of}
 use Rattle.lloyd_search.specs.Nearest.{first_least}
-use Rattle.lloyd_search.proofs.NearestLaw.{index_below, found_is}
-use Rattle.lloyd_search.proofs.Parts.{row_fits, part_distance}
+use Rattle.lloyd_search.proofs.NearestLaw.{found_is}
+use Rattle.lloyd_search.proofs.Parts.{part_distance}
 use Rattle.lloyd_round.specs.Adding.{front}
+use Rattle.lloyd_round.proofs.AddLaw.{row_inside, found_below}
 use Rattle.lloyd_round.proofs.nearest_cell.Goals as goal
 
 answer : (i j : ℕ) (x : Float) (d : ℕ → Float) → i ≡ j → x ≡ d i → ◌≡◌ {A = Found} (record { index = i; distance = x }) (record { index = j; distance = d j })
 answer i j x d e h = rw (h, e)
 
-pub slice_bounds-codewords-end : goal.slice_bounds-codewords-end
-slice_bounds-codewords-end c =
-    let block : List Float =
-    c.args.sample.now in
-    let book : List Float =
-    front c.args.n (length (block)) c.args.work.now in
-    let book-size : length (book) ≡ c.args.n * length (block) =
-    length-take-le (c.args.n * length (block)) c.args.work.now c.requires.1 in
-    sym (book-size)
-
-pub search-choice-requires : goal.search-choice-requires
-search-choice-requires c =
-    let block : List Float =
-    c.args.sample.now in
-    let book : List Float =
-    front c.args.n (length (block)) c.args.work.now in
-    let book-size : length (book) ≡ c.args.n * length (block) =
-    length-take-le (c.args.n * length (block)) c.args.work.now c.requires.1 in
-    book-size
-
 pub float_from_bits-t-14 : goal.float_from_bits-t-14
 unfolding nan_bits
 float_from_bits-t-14 c = tt
+
+pub overflow_mul-from : goal.overflow_mul-from
+overflow_mul-from c =
+    let a = c.args in
+    let k = length a.sample.now in
+    let i = c.search-choice.result.found.index in
+    let below : i < a.n = subst (λ (r : Choice). r.found.index < a.n) (sym c.search-choice.ensures) (found_below a.n k (front a.n k a.work.now) (vector_of a.sample.now) c.requires.0) in
+    omega (arith, row_inside i a.n k below, c.requires.1)
+
+pub overflow_add-to : goal.overflow_add-to
+overflow_add-to c =
+    let a = c.args in
+    let k = length a.sample.now in
+    let i = c.search-choice.result.found.index in
+    let below : i < a.n = subst (λ (r : Choice). r.found.index < a.n) (sym c.search-choice.ensures) (found_below a.n k (front a.n k a.work.now) (vector_of a.sample.now) c.requires.0) in
+    omega (arith, row_inside i a.n k below, c.requires.1)
+
+pub offset_bounds-codewords-from : goal.offset_bounds-codewords-from
+offset_bounds-codewords-from c =
+    let a = c.args in
+    let k = length a.sample.now in
+    let i = c.search-choice.result.found.index in
+    let below : i < a.n = subst (λ (r : Choice). r.found.index < a.n) (sym c.search-choice.ensures) (found_below a.n k (front a.n k a.work.now) (vector_of a.sample.now) c.requires.0) in
+    omega (arith, row_inside i a.n k below, c.requires.1, c.well_formed.0.1)
+
+pub slice_bounds-squared_distance-end : goal.slice_bounds-squared_distance-end
+slice_bounds-squared_distance-end c =
+    let a = c.args in
+    let k = length a.sample.now in
+    let i = c.search-choice.result.found.index in
+    let below : i < a.n = subst (λ (r : Choice). r.found.index < a.n) (sym c.search-choice.ensures) (found_below a.n k (front a.n k a.work.now) (vector_of a.sample.now) c.requires.0) in
+    omega (arith, row_inside i a.n k below, c.requires.1, length-take-le (a.n * k) a.work.now c.requires.1)
 
 -- below infinity the search's own distance is that of the codeword found
 pub returns-then-found : goal.returns-then-found
@@ -60,70 +73,6 @@ returns-then-found c =
     let d : ℕ → Float = λ i. distance k (vector_of (block)) (row_of k (book) i) in
     let e = ap (λ (r : Choice). r.found) q.search-choice.ensures in
     e ∙ ap (λ (x : Float). record { index = (first_least d s.args.n).index; distance = x }) (found_is d s.args.n (subst (λ (f : Found). T (lt f.distance (inf false))) e (holds_true c.if-found.true)))
-
-pub overflow_mul-from : goal.overflow_mul-from
-overflow_mul-from c =
-    let block : List Float =
-    c.args.sample.now in
-    let book : List Float =
-    front c.args.n (length (block)) c.args.work.now in
-    let found_below : c.search-choice.result.found.index < c.args.n =
-    let s = c in
-    subst (λ (r : Choice). r.found.index < s.args.n) (sym c.search-choice.ensures) (index_below (λ i. distance (length (block)) (vector_of (block)) (row_of (length (block)) (book) i)) s.args.n s.requires.0) in
-    let book-size : length (book) ≡ c.args.n * length (block) =
-    length-take-le (c.args.n * length (block)) c.args.work.now c.requires.1 in
-    let codeword-fits : c.search-choice.result.found.index * length (block) + length (block) ≤ length (book) =
-    let s = c in
-    row_fits c.search-choice.result.found.index s.args.n (length (block)) (c.search-choice.result.found.index * length (block)) (length (book)) (found_below) refl (book-size) in
-    let q = c in omega (arith, codeword-fits, book-size)
-
-pub overflow_add-to : goal.overflow_add-to
-overflow_add-to c =
-    let block : List Float =
-    c.args.sample.now in
-    let book : List Float =
-    front c.args.n (length (block)) c.args.work.now in
-    let found_below : c.search-choice.result.found.index < c.args.n =
-    let s = c in
-    subst (λ (r : Choice). r.found.index < s.args.n) (sym c.search-choice.ensures) (index_below (λ i. distance (length (block)) (vector_of (block)) (row_of (length (block)) (book) i)) s.args.n s.requires.0) in
-    let book-size : length (book) ≡ c.args.n * length (block) =
-    length-take-le (c.args.n * length (block)) c.args.work.now c.requires.1 in
-    let codeword-fits : c.search-choice.result.found.index * length (block) + length (block) ≤ length (book) =
-    let s = c in
-    row_fits c.search-choice.result.found.index s.args.n (length (block)) (c.search-choice.result.found.index * length (block)) (length (book)) (found_below) refl (book-size) in
-    let q = c in omega (arith, codeword-fits, book-size)
-
-pub offset_bounds-codewords-from : goal.offset_bounds-codewords-from
-offset_bounds-codewords-from c =
-    let block : List Float =
-    c.args.sample.now in
-    let book : List Float =
-    front c.args.n (length (block)) c.args.work.now in
-    let found_below : c.search-choice.result.found.index < c.args.n =
-    let s = c in
-    subst (λ (r : Choice). r.found.index < s.args.n) (sym c.search-choice.ensures) (index_below (λ i. distance (length (block)) (vector_of (block)) (row_of (length (block)) (book) i)) s.args.n s.requires.0) in
-    let book-size : length (book) ≡ c.args.n * length (block) =
-    length-take-le (c.args.n * length (block)) c.args.work.now c.requires.1 in
-    let codeword-fits : c.search-choice.result.found.index * length (block) + length (block) ≤ length (book) =
-    let s = c in
-    row_fits c.search-choice.result.found.index s.args.n (length (block)) (c.search-choice.result.found.index * length (block)) (length (book)) (found_below) refl (book-size) in
-    let q = c in omega (arith, codeword-fits, book-size, q.well_formed.0.1)
-
-pub slice_bounds-squared_distance-end : goal.slice_bounds-squared_distance-end
-slice_bounds-squared_distance-end c =
-    let block : List Float =
-    c.args.sample.now in
-    let book : List Float =
-    front c.args.n (length (block)) c.args.work.now in
-    let found_below : c.search-choice.result.found.index < c.args.n =
-    let s = c in
-    subst (λ (r : Choice). r.found.index < s.args.n) (sym c.search-choice.ensures) (index_below (λ i. distance (length (block)) (vector_of (block)) (row_of (length (block)) (book) i)) s.args.n s.requires.0) in
-    let book-size : length (book) ≡ c.args.n * length (block) =
-    length-take-le (c.args.n * length (block)) c.args.work.now c.requires.1 in
-    let codeword-fits : c.search-choice.result.found.index * length (block) + length (block) ≤ length (book) =
-    let s = c in
-    row_fits c.search-choice.result.found.index s.args.n (length (block)) (c.search-choice.result.found.index * length (block)) (length (book)) (found_below) refl (book-size) in
-    codeword-fits
 
 pub returns : goal.returns
 returns c =
