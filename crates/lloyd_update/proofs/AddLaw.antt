@@ -95,13 +95,13 @@ module _ (n k : ℕ) (codebook samples : List Float) (assignments : List ℕ) (w
   AddedTo s work counts =
       (c : Call) → c.size ≡ n → c.dim ≡ k → c.codebook ≡ codebook → c.samples ≡ samples → c.assignments ≡ assignments → Added c 0 work₀ counts₀ → Added c s work counts
 
-module _ {n k : ℕ} {codebook samples : List Float} {assignments : List ℕ} {work₀ : List Float} {counts₀ : List ℕ} (good : Addable n k codebook samples assignments work₀ counts₀) (s : ℕ) {at : ℕ} (work : List Float) (counts : List ℕ) (below : s < length assignments) (is_at : at ≡ s * k)
+module _ {n k : ℕ} {codebook samples : List Float} {assignments : List ℕ} {work₀ : List Float} {counts₀ : List ℕ} (good : Addable n k codebook samples assignments work₀ counts₀) (s : ℕ) (work : List Float) (counts : List ℕ) (below : s < length assignments)
     (size : length work ≡ length work₀) (cells : length counts ≡ length counts₀) where
   abbrev cell : ℕ
   cell = get_or assignments s 0
 
   abbrev part : List Float
-  part = take (at + k - at) (drop at samples)
+  part = take (s * k + k - s * k) (drop (s * k) samples)
 
   abbrev word : List Float
   word = take (cell * k + k - cell * k) (drop (cell * k) codebook)
@@ -109,14 +109,14 @@ module _ {n k : ℕ} {codebook samples : List Float} {assignments : List ℕ} {w
   cell_below : get_or assignments s 0 < n
   cell_below = good.cells s below
 
-  pub sample_fits : at + k ≤ length samples
-  sample_fits = row_fits s (length assignments) k at (length samples) below is_at good.rows
+  pub sample_fits : s * k + k ≤ length samples
+  sample_fits = row_fits s (length assignments) k (s * k) (length samples) below refl good.rows
 
   pub word_fits : get_or assignments s 0 * k + k ≤ length codebook
   word_fits = row_fits cell n k (cell * k) (length codebook) cell_below refl good.words
 
-  pub part-size : length (take (at + k - at) (drop at samples)) ≡ k
-  part-size = part_length samples s k at is_at sample_fits
+  pub part-size : length (take (s * k + k - s * k) (drop (s * k) samples)) ≡ k
+  part-size = part_length samples s k (s * k) refl sample_fits
 
   pub word_size : length (take (get_or assignments s 0 * k + k - get_or assignments s 0 * k) (drop (get_or assignments s 0 * k) codebook)) ≡ k
   word_size = part_length codebook cell k (cell * k) refl word_fits
@@ -146,14 +146,14 @@ module _ {n k : ℕ} {codebook samples : List Float} {assignments : List ℕ} {w
     is_distance : distance k (row_of k samples s) (row_of k codebook cell) ≡ d
     is_distance =
         sym (is-d ∙ ap (λ (z : ℕ). distance z (vector_of part) (vector_of word)) part-size
-        ∙ distance_ext k (vector_of part) (vector_of word) (row_of k samples s) (row_of k codebook cell) (part_row samples s k at is_at) (part_row codebook cell k (cell * k) refl))
+        ∙ distance_ext k (vector_of part) (vector_of word) (row_of k samples s) (row_of k codebook cell) (part_row samples s k (s * k) refl) (part_row codebook cell k (cell * k) refl))
 
     module _ (c : Call) (en : c.size ≡ n) (ek : c.dim ≡ k) (eb : c.codebook ≡ codebook) (es : c.samples ≡ samples) (ea : c.assignments ≡ assignments) where
       joins : after ≡ gather_work (places_of c.size c.dim) c.dim cell part d work
       joins = is-after ∙ joined_is ∙ rw (en, ek)
 
       row_is : (j : ℕ) → j < c.dim → vector_of part j ≡ sample_of c s j
-      row_is j m = rw (ek, es) (part_row samples s k at is_at j (subst (λ (z : ℕ). j < z) ek m))
+      row_is j m = rw (ek, es) (part_row samples s k (s * k) refl j (subst (λ (z : ℕ). j < z) ek m))
 
       dist_is : distance_of c s ≡ d
       dist_is = rw (ek, es, eb, ea) is_distance

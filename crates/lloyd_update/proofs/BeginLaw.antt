@@ -1,62 +1,53 @@
 -- The beginning of an update alone: cleared work, samples added
 -- up, means, and where that leaves the repairs. Assumes nothing.
-use Rattle.std.proofs.Common.{◌≡◌, ℕ, ◌+◌, ◌*◌, ◌<◌, ◌≤◌, Bool, true, false, List, [], ◌∷◌, length, get_or, replicate, pos, sym, refl, ap, ◌∙◌, subst, true≢false, mul-le-mul_right, le-mul_of_pos_right, arith, le-ltb, lt-ltb}
-use lib.Arith.{digits_lt}
+use Rattle.std.proofs.Common.{◌≡◌, ℕ, ◌+◌, ◌*◌, ◌<◌, ◌≤◌, List, [], ◌∷◌, length, get_or, replicate, pos, sym, refl, ap, ◌∙◌, subst, mul-le-mul_right, le-mul_of_pos_right, arith, le-ltb, lt-ltb}
 use lib.ListN.{length-replicate, get_or-replicate}
-use lib.Ieee.{Float, nan, fin, binary64, round, of_int}
+use lib.Ieee.{Float, nan, binary64, round, of_int}
 use Rattle.ieee.specs.Sum.{plus_zero}
 use Rattle.error.specs.declared.Refusal.{Refusal}
-use Rattle.error.specs.Numbers.{Outcome, completed, refused, and_then, whole, refusal}
-use Rattle.error.proofs.Refusals.{by_refusal}
-use Rattle.slices.specs.Lists.{patched}
-use Rattle.slices.proofs.ListLaw.{patched_below, patched_inside, length-patched}
+use Rattle.error.specs.Numbers.{completed, refused, whole}
 use Rattle.profile.specs.declared.EmptyCellPolicy.TheVariants.{SplitHighestDistortion, FailClosed}
 use Rattle.lloyd_events.specs.declared.LloydRepairEvent.{LloydRepairEvent}
 use Rattle.lloyd_cells.specs.declared.Places.{Places}
 use Rattle.lloyd_cells.specs.Cells.{count_to, farthest}
 use Rattle.lloyd_cells.specs.Repair.{Repaired, repair_to}
 use Rattle.lloyd_cells.specs.Update.{empty_cells, updated}
-use Rattle.lloyd_cells.specs.Work.{Fit, Held, means_to}
+use Rattle.lloyd_cells.specs.Work.{cleared, Fit, Held, means_to}
 use Rattle.lloyd_cells.proofs.CellsLaw.{count_to_ext, count_to_upto, farthest_within}
-use Rattle.lloyd_cells.proofs.WorkLaw.{gathered_start, held_means, means_kept}
+use Rattle.lloyd_cells.proofs.WorkLaw.{held_means, means_kept}
+use Rattle.lloyd_cells.proofs.ClearLaw.{cleared_size, cleared_zero, cleared_gathered}
 use Rattle.lloyd_repair.specs.Running.{HoldsFarthest, Running}
-use Rattle.lloyd_update.specs.declared.Updated.TheVariants as updated
 use Rattle.lloyd_update.specs.declared.Step.{Step}
-use Rattle.lloyd_update.specs.Alone.{Call, terms_of, update_checks, update_of, update_alone}
-use Rattle.lloyd_update.specs.Progress.{places_of, numbers_of, updated_of, samples_of, sample_of, cell_of, old_word_of, start_cells, far_of, distance_of, Added, Addable, UpdateProgress}
+use Rattle.lloyd_update.specs.declared.Step.TheVariants.{Refused}
+use Rattle.lloyd_update.specs.Alone.{Call, terms_of, update_checks, update_of}
+use Rattle.lloyd_update.specs.Progress.{places_of, numbers_of, samples_of, sample_of, cell_of, old_word_of, start_cells, far_of, distance_of, Added, Addable, Under, UpdateProgress}
 use Rattle.lloyd_update.proofs.CheckLaw.{Passed}
-use Rattle.lloyd_update.proofs.AddLaw.{shape, numbers_room}
-use Rattle.lloyd_update.proofs.RepairsLaw.{not_completed, event_count, count_refused}
+use Rattle.lloyd_update.proofs.AddLaw.{shape, numbers_room, AddedTo}
+use Rattle.lloyd_update.proofs.RepairsLaw.{not_completed}
 
 -- ---- nothing is added up yet
 zero_float : of_int binary64 (pos 0) ≡ plus_zero
 unfolding of_int round
 zero_float = refl
 
-module _ (c : Call) (work : List Float) (counts : List ℕ) (L : ℕ) (some : 0 < c.dim) (size : L ≡ 2 * (c.size * c.dim) + 2 * c.size)
-    (is-work : work ≡ patched (replicate L plus_zero) (2 * (c.size * c.dim) + c.size) c.size (λ i. fin true 1 (pos 0))) (is-counts : counts ≡ replicate c.size 0) where
-  zeros : (i : ℕ) → i < 2 * (c.size * c.dim) + c.size → get_or work i nan ≡ plus_zero
-  zeros i l =
-      ap (λ (z : List Float). get_or z i nan) is-work
-      ∙ patched_below (replicate L plus_zero) (2 * (c.size * c.dim) + c.size) c.size (λ j. fin true 1 (pos 0)) i nan l
-      ∙ get_or-replicate L i plus_zero nan (omega arith)
+module _ (c : Call) (work₀ work : List Float) (counts₀ counts : List ℕ) (some : 0 < c.dim) (size : length work₀ ≡ 2 * (c.size * c.dim) + 2 * c.size) (tallies : length counts₀ ≡ c.size)
+    (p : Places) (is-p : p ≡ places_of c.size c.dim) (is-work : work ≡ cleared p c.size work₀) (is-counts : counts ≡ replicate (length counts₀) 0) where
+  fits : Fit (places_of c.size c.dim) c.size c.dim (length work₀)
+  fits = shape c.size c.dim (length work₀) some size
 
-  least : (i : ℕ) → i < c.size → get_or work (2 * (c.size * c.dim) + c.size + i) nan ≡ fin true 1 (pos 0)
-  least i l =
-      let n = length-replicate L plus_zero in
-      ap (λ (z : List Float). get_or z (2 * (c.size * c.dim) + c.size + i) nan) is-work
-      ∙ patched_inside (replicate L plus_zero) (2 * (c.size * c.dim) + c.size) c.size (λ j. fin true 1 (pos 0)) i nan (omega arith) l
+  is : work ≡ cleared (places_of c.size c.dim) c.size work₀
+  is = is-work ∙ ap (λ (q : Places). cleared q c.size work₀) is-p
 
   none : (i : ℕ) → i < c.size → get_or counts i 0 ≡ 0
-  none i l = ap (λ (z : List ℕ). get_or z i 0) is-counts ∙ get_or-replicate c.size i 0 0 l
+  none i l = ap (λ (z : List ℕ). get_or z i 0) is-counts ∙ get_or-replicate (length counts₀) i 0 0 (omega arith)
 
-  pub cleared : Added c 0 work counts
+  pub none_added : Added c 0 work counts
   unfolding farthest
-  cleared = record {
-    gathered =
-        gathered_start (places_of c.size c.dim) c.size c.dim (cell_of c) (sample_of c) (distance_of c) work counts
-        (λ i j l m. let r = digits_lt l m in zeros (0 + (i * c.dim + j)) (omega arith)) (λ i l. zeros (2 * (c.size * c.dim) + i) (omega arith)) least none;
-    numbers = λ i l. let r = numbers_room c.size c.dim i some l in zeros (c.size * c.dim + i) (omega arith) ∙ sym zero_float;
+  none_added = record {
+    gathered = cleared_gathered (places_of c.size c.dim) c.size c.dim work₀ work fits is (cell_of c) (sample_of c) (distance_of c) counts none;
+    numbers = λ i l.
+        let r = numbers_room c.size c.dim i some l in
+        cleared_zero (places_of c.size c.dim) c.size c.dim work₀ work fits is (c.size * c.dim + i) (omega arith) (omega arith) ∙ sym zero_float;
   }
 
   pub addable : Passed c → Addable c.size c.dim c.codebook c.samples c.assignments work counts
@@ -68,8 +59,8 @@ module _ (c : Call) (work : List Float) (counts : List ℕ) (L : ℕ) (some : 0 
     rows = p.rows.whole-samples ∙ ap (λ (z : ℕ). z * c.dim) (sym p.each);
     few = omega (arith, p.each, p.rows.count_upto);
     cells = p.cells;
-    floats = ap length is-work ∙ length-patched (replicate L plus_zero) (2 * (c.size * c.dim) + c.size) c.size (λ i. fin true 1 (pos 0)) ∙ length-replicate L plus_zero ∙ size;
-    integers = ap length is-counts ∙ length-replicate c.size 0;
+    floats = cleared_size (places_of c.size c.dim) c.size c.dim work₀ work fits is ∙ size;
+    integers = ap length is-counts ∙ length-replicate (length counts₀) 0 ∙ tallies;
     start = none;
   }
 
@@ -154,26 +145,24 @@ module _ (c : Call) where
   pub closed_refuses : (empty : ℕ) → empty ≡ empty_cells (start_cells c).tally c.size → 0 < empty → c.policy ≡ FailClosed → update_of c ≡ refused 14 (whole empty ∷ [])
   closed_refuses empty e l h = some_empty (subst (λ (z : ℕ). 0 < z) e l) h ∙ ap (λ (z : ℕ). refused 14 (whole z ∷ [])) (sym e)
 
--- ---- what the update has come to
-module _ (c : Call) (events : List LloydRepairEvent) (work : List Float) (counts : List ℕ) (s : Step) where
-  -- refused by a check
-  pub unchecked : (x : Refusal) → s.going ≡ false → s.begun ≡ false → s.answer ≡ updated.Refused x → refusal x ≡ update_checks c → UpdateProgress c events work counts s
-  unchecked x g b a e =
-      let alone : update_alone c ≡ refusal x =
-      ap (λ (o : Outcome Unit). and_then o (λ u. update_of c)) (sym e) ∙ by_refusal (λ (q : Outcome Unit) (p : Outcome Repaired). and_then q (λ u. update_of c) ≡ p) (λ n vs. refl) x in (
-        λ z. absurd (true≢false (sym z ∙ g)),
-        λ z. record {
-          answer = ap updated_of a ∙ count_refused x ∙ sym (ap event_count alone);
-          done = λ r k. absurd (not_completed x r (sym alone ∙ k));
-          begun = λ k. absurd (true≢false (sym k ∙ b));
-          early = λ k u q. not_completed x u (e ∙ q);
-        },
-      )
+-- ---- a call that has passed its checks, from its cleared work to its means
+module _ (c : Call) (passed : Passed c) (work₀ v : List Float) (counts₀ u : List ℕ) (floats : length work₀ ≡ c.float_work) (integers : length counts₀ ≡ c.integer_work)
+    (p : Places) (is-p : p ≡ places_of c.size c.dim) (is-v : v ≡ cleared p c.size work₀) (is-u : u ≡ replicate (length counts₀) 0) where
+  pub can_add : Addable c.size c.dim c.codebook c.samples c.assignments v u
+  can_add = addable c work₀ v counts₀ u passed.book.coordinates (floats ∙ passed.floats) (integers ∙ passed.integers) p is-p is-v is-u passed
 
-  -- an update that has passed its checks has begun
-  pub has_begun : UpdateProgress c events work counts s → update_checks c ≡ completed tt → s.begun ≡ false → ⊥
-  has_begun p k b = go s.going refl
-    where
-      go : (t : Bool) → s.going ≡ t → ⊥
-      go true e = true≢false (sym (p.0 e).begun ∙ b)
-      go false e = (p.1 e).early b tt k
+  module _ (w after : List Float) (i : List ℕ) (size : length w ≡ length v) (tallies : length i ≡ length u)
+      (added : AddedTo c.size c.dim c.codebook c.samples c.assignments v u (length c.assignments) w i) (is-after : after ≡ means_to p c.dim i w c.size) where
+    sums : Added c (length c.assignments) w i
+    sums = added c refl refl refl refl refl (none_added c work₀ v counts₀ u passed.book.coordinates (floats ∙ passed.floats) (integers ∙ passed.integers) p is-p is-v is-u)
+
+    pub empties : (empty : ℕ) → empty ≡ count_to (λ j. get_or i j 0) 0 (length i) → empty ≡ empty_cells (start_cells c).tally c.size
+    empties = counted c passed w i sums (size ∙ can_add.floats) (tallies ∙ can_add.integers) p is-p after is-after
+
+    pub begun : update_of c ≡ repair_to (terms_of c) (far_of c) (start_cells c) c.size → update_checks c ≡ completed tt → Under c 0 (unrepaired c) after i
+    begun repairs accepted = record { checked = accepted; repairs = repairs; running = ready c passed w i sums (size ∙ can_add.floats) (tallies ∙ can_add.integers) p is-p after is-after }
+
+-- ---- what the update has come to
+-- one that has passed its checks was not refused by them
+pub has_begun : (c : Call) (events : List LloydRepairEvent) (work : List Float) (counts : List ℕ) (s : Step) → UpdateProgress c events work counts s → update_checks c ≡ completed tt → (x : Refusal) → s ≡ Refused x → ⊥
+has_begun c events work counts s p k x e = not_completed x tt (sym (subst (UpdateProgress c events work counts) e p) ∙ k)

@@ -1,10 +1,8 @@
 -- What a call that passes the checks of an update has shown. Assumes nothing.
-use Rattle.std.proofs.Common.{◌≡◌, ℕ, ◌+◌, ◌*◌, ◌/◌, ◌<◌, ◌≤◌, not, eqb, leb, List, [], ◌∷◌, length, get_or, refl, eqb-true, leb-false, leb-true}
+use Rattle.std.proofs.Common.{◌≡◌, ℕ, ◌+◌, ◌*◌, ◌/◌, ◌<◌, ◌≤◌, not, eqb, leb, List, [], ◌∷◌, length, get_or, refl, eqb-true, leb-false, leb-true, Option, None, Some}
 use borrow.Author.Tests.{not-false}
 use Rattle.error.specs.Numbers.{completed, whole}
 use Rattle.error.proofs.Outcomes.{never, passed}
-use Rattle.slices.specs.declared.First.{First}
-use Rattle.slices.specs.declared.First.TheVariants.{Nowhere, At}
 use Rattle.slices.specs.First.{first_where}
 use Rattle.slices.specs.Limit.{first_outside}
 use Rattle.slices.proofs.FirstLaw.{none_before}
@@ -20,13 +18,13 @@ pub record Passed (c : Call) : Type 0 where
   pub integers : c.integer_work ≡ c.size
   pub room : c.slots ≤ 1048576
   pub each : length c.assignments ≡ length c.samples / c.dim
-  pub codebook_within : first_outside update_limit c.codebook ≡ Nowhere
-  pub samples-within : first_outside update_limit c.samples ≡ Nowhere
+  pub codebook_within : first_outside update_limit c.codebook ≡ None
+  pub samples-within : first_outside update_limit c.samples ≡ None
   pub cells : (s : ℕ) → s < length c.assignments → get_or c.assignments s 0 < c.size
 
-all_assigned : (cells : List ℕ) (n : ℕ) (f : First) → only_cells cells n f ≡ completed tt → f ≡ Nowhere
-all_assigned cells n Nowhere e = refl
-all_assigned cells n (At s) e = absurd (never 11 _ tt e)
+all_assigned : (cells : List ℕ) (n : ℕ) (f : Option ℕ) → only_cells cells n f ≡ completed tt → f ≡ None
+all_assigned cells n None e = refl
+all_assigned cells n (Some s) e = absurd (never 11 _ tt e)
 
 pub checks_passed : (c : Call) → update_checks c ≡ completed tt → Passed c
 unfolding update_checks value_checks

@@ -1,27 +1,22 @@
 -- The repairs of an update alone: what a turn says of it, and that its events fit the slots. Assumes nothing.
-use Rattle.std.proofs.Common.{◌≡◌, ℕ, zero, suc, ◌+◌, ◌*◌, ◌<◌, ◌≤◌, Bool, true, false, cond, eqb, leb, List, [], ◌∷◌, length, sym, refl, ap, ◌∙◌, subst, true≢false, arith, length-append, leb-false}
+use Rattle.std.proofs.Common.{◌≡◌, ℕ, zero, suc, ◌+◌, ◌*◌, ◌<◌, ◌≤◌, Bool, true, false, cond, eqb, leb, List, [], ◌∷◌, length, sym, refl, ap, ◌∙◌, subst, arith, length-append, leb-false, Option, None, Some, Err, Result, Ok}
 use lib.Ieee.{Float, le}
 use Rattle.error.specs.declared.Refusal.{Refusal}
 use Rattle.error.specs.Numbers.{Outcome, completed, refused, and_then, whole, refusal}
 use Rattle.error.proofs.Outcomes.{never, completed_same, then_completed}
 use Rattle.error.proofs.Refusals.{by_refusal}
-use Rattle.slices.specs.declared.First.{First}
-use Rattle.slices.specs.declared.First.TheVariants.{Nowhere, At}
 use Rattle.lloyd_events.specs.declared.LloydRepairEvent.{LloydRepairEvent}
 use Rattle.lloyd_cells.specs.declared.Places.{Places}
 use Rattle.lloyd_cells.specs.Repair.{Cells, Terms, Repaired, donor_to, least_norm, residual_norm, event_of, repair_by, turn, repair_to}
 use Rattle.lloyd_cells.proofs.TallyLaw.{split_by, events_upto}
 use Rattle.lloyd_repair.specs.declared.Numbers.{Numbers}
 use Rattle.lloyd_repair.specs.declared.RepairTerms.{RepairTerms}
-use Rattle.lloyd_repair.specs.declared.Turn.{Turn}
-use Rattle.lloyd_repair.specs.declared.Turn.TheVariants.{Repair, Done, Refused}
+use Rattle.lloyd_repair.specs.declared.Repair.{Repair}
 use Rattle.lloyd_repair.specs.Running as running
 use Rattle.lloyd_repair.specs.Running.{Running, Turned}
-use Rattle.lloyd_update.specs.declared.Updated.TheVariants as updated
 use Rattle.lloyd_update.specs.declared.UpdateTerms.{UpdateTerms}
-use Rattle.lloyd_update.specs.declared.Step.{Step}
 use Rattle.lloyd_update.specs.Alone.{Call, terms_of, update_checks, update_of, update_alone}
-use Rattle.lloyd_update.specs.Progress.{places_of, numbers_of, updated_of, start_cells, far_of, Under, UpdateProgress, Matches, ReadyUpdate, ReadyAt}
+use Rattle.lloyd_update.specs.Progress.{places_of, numbers_of, start_cells, far_of, Under, Going, Ended, Matches, ReadyUpdate, ReadyAt}
 use Rattle.lloyd_update.proofs.CheckLaw.{checks_passed}
 use Rattle.lloyd_update.proofs.AddLaw.{places_small}
 
@@ -36,25 +31,17 @@ pub count_refused : (x : Refusal) → refusal x ≡ event_count (refusal x)
 count_refused x = by_refusal (λ (q : Outcome Repaired) (p : Outcome ℕ). p ≡ event_count q) (λ n vs. refl) x
 
 -- an update that is refused once its checks are passed
-pub not_repaired : (c : Call) (events : List LloydRepairEvent) (work : List Float) (counts : List ℕ) (s : Step) (x : Refusal) → s.going ≡ false → s.begun ≡ true → s.answer ≡ updated.Refused x
-    → update_checks c ≡ completed tt → update_of c ≡ refusal x → UpdateProgress c events work counts s
-not_repaired c events work counts s x g b a k e =
-    let alone : update_alone c ≡ refusal x = ap (λ (o : Outcome Unit). and_then o (λ u. update_of c)) k ∙ e in (
-      λ z. absurd (true≢false (sym z ∙ g)),
-      λ z. record {
-        answer = ap updated_of a ∙ count_refused x ∙ sym (ap event_count alone);
-        done = λ r q. absurd (not_completed x r (sym alone ∙ q));
-        begun = λ q. k;
-        early = λ q u v. true≢false (sym b ∙ q);
-      },
-    )
+pub not_repaired : (c : Call) (events : List LloydRepairEvent) (work : List Float) (counts : List ℕ) (x : Refusal) → update_checks c ≡ completed tt → update_of c ≡ refusal x → Ended c events work counts (Err x)
+not_repaired c events work counts x k e =
+    let alone : update_alone c ≡ refusal x = ap (λ (o : Outcome Unit). and_then o (λ u. update_of c)) k ∙ e in
+    record { answers = count_refused x ∙ sym (ap event_count alone); done = λ r q. absurd (not_completed x r (sym alone ∙ q)); checked = k }
 
 -- ---- the events fit the free slots
 module _ (t : Terms) (far : ℕ → ℕ → Float) where
   module _ (e : ℕ) (r s : Repaired) (h : length r.events ≤ t.free) where
-    by_donor : (d : First) → repair_by t far e r d ≡ completed s → length s.events ≤ t.free
-    by_donor Nowhere k = absurd (never 15 (whole e ∷ []) s k)
-    by_donor (At c) k = tests (le (residual_norm t.dim (far c) (r.cells.word c)) least_norm) (leb t.free (length r.events)) refl k
+    by_donor : (d : Option ℕ) → repair_by t far e r d ≡ completed s → length s.events ≤ t.free
+    by_donor None k = absurd (never 15 (whole e ∷ []) s k)
+    by_donor (Some c) k = tests (le (residual_norm t.dim (far c) (r.cells.word c)) least_norm) (leb t.free (length r.events)) refl k
       where
         tests : (a b : Bool) → leb t.free (length r.events) ≡ b → cond a (refused 16 (whole c ∷ [])) (cond b (refused 19 (whole t.shown ∷ [])) (completed (split_by t far e r c))) ≡ completed s → length s.events ≤ t.free
         tests true b q z = absurd (never 16 (whole c ∷ []) s z)
@@ -90,7 +77,7 @@ module _ (far : ℕ → ℕ → Float) (start : Cells) (r : Repaired) (work : Li
       (subst (λ (z : Numbers). Running p z u ys far start next r work ints) em
       (subst (λ (z : Terms). Running p m z ys far start next r work ints) et (subst (λ (z : List Float). Running p m t z far start next r work ints) ex h)))
 
-  same_turn : (o : Turn) → Turned p m t xs far start r work ints o → Turned q l u ys far start r work ints o
+  same_turn : (o : Result (Option Repair) Refusal) → Turned p m t xs far start r work ints o → Turned q l u ys far start r work ints o
   same_turn o h =
       subst (λ (z : Places). Turned z l u ys far start r work ints o) ep
       (subst (λ (z : Numbers). Turned p z u ys far start r work ints o) em
@@ -111,7 +98,7 @@ module _ {c : Call} {t : UpdateTerms} {xs : List Float} {slots : ℕ} (same : Ma
         → Running p (numbers_of t.codebook_size t.block_dim) (running.terms_of (repair_terms t slots)) xs (far_of c) (start_cells c) next r work ints
     to_turn {next} {r} {work} {ints} h = same_run (far_of c) (start_cells c) r work ints (sym (same_places p is-p)) (sym same_numbers) (sym same_terms) same.samples next h.running
 
-    pub of_turn : (r : Repaired) (work : List Float) (ints : List ℕ) (o : Turn) → Turned p (numbers_of t.codebook_size t.block_dim) (running.terms_of (repair_terms t slots)) xs (far_of c) (start_cells c) r work ints o
+    pub of_turn : (r : Repaired) (work : List Float) (ints : List ℕ) (o : Result (Option Repair) Refusal) → Turned p (numbers_of t.codebook_size t.block_dim) (running.terms_of (repair_terms t slots)) xs (far_of c) (start_cells c) r work ints o
         → Turned (places_of c.size c.dim) (numbers_of c.size c.dim) (terms_of c) c.samples (far_of c) (start_cells c) r work ints o
     of_turn r work ints o h = same_turn (far_of c) (start_cells c) r work ints (same_places p is-p) same_numbers same_terms (sym same.samples) o h
 
@@ -131,44 +118,33 @@ module _ {t : UpdateTerms} {xs : List Float} {slots used : ℕ} {work : List Flo
 
 -- ---- what an update has come to after a turn
 module _ {c : Call} {from : ℕ} {r : Repaired} {before : List Float} {earlier : List ℕ} (h : Under c from r before earlier) (work : List Float) (counts : List ℕ) where
-  pub goes_on : (s : Step) → s.going ≡ true → s.begun ≡ true
-      → Turned (places_of c.size c.dim) (numbers_of c.size c.dim) (terms_of c) c.samples (far_of c) (start_cells c) r work counts (Repair s.event s.next) → UpdateProgress c r.events work counts s
-  goes_on s g b o = (
-    λ z. record {
-      r = o.after;
-      under = record { checked = h.checked; repairs = h.repairs; running = o.running };
-      last = o.event;
-      room = omega (arith, events_within (terms_of c) (far_of c) (start_cells c) s.next o.after o.running.came, ap length o.event, length-append r.events (s.event ∷ []));
-      begun = b;
-    },
-    λ z. absurd (true≢false (sym g ∙ z)),
-  )
+  pub goes_on : (x : Repair) → Turned (places_of c.size c.dim) (numbers_of c.size c.dim) (terms_of c) c.samples (far_of c) (start_cells c) r work counts (Ok (Some x)) → Going c r.events work counts x
+  goes_on x o = record {
+    r = o.after;
+    under = record { checked = h.checked; repairs = h.repairs; running = o.running };
+    last = o.event;
+    room = omega (arith, events_within (terms_of c) (far_of c) (start_cells c) x.next o.after o.running.came, ap length o.event, length-append r.events (x.event ∷ []));
+  }
 
-  pub all_done : (s : Step) (used : ℕ) → s.going ≡ false → s.begun ≡ true → s.answer ≡ updated.Repairs used → used ≡ length r.events
-      → Turned (places_of c.size c.dim) (numbers_of c.size c.dim) (terms_of c) c.samples (far_of c) (start_cells c) r work counts Done → UpdateProgress c r.events work counts s
-  all_done s used g b a n o =
-      let is : update_alone c ≡ completed r = ap (λ (q : Outcome Unit). and_then q (λ u. update_of c)) h.checked ∙ h.repairs ∙ o.0 in (
-        λ z. absurd (true≢false (sym z ∙ g)),
-        λ z. record {
-          answer = ap updated_of a ∙ ap completed n ∙ sym (ap event_count is);
-          done = λ x e.
-              subst (λ (y : Repaired). (r.events ≡ y.events) × Under c c.size y work counts) (completed_same r x (sym is ∙ e))
-              (refl, record { checked = h.checked; repairs = h.repairs; running = o.1 });
-          begun = λ y. h.checked;
-          early = λ y u v. true≢false (sym b ∙ y);
-        },
-      )
+  pub all_done : (used : ℕ) → used ≡ length r.events → Turned (places_of c.size c.dim) (numbers_of c.size c.dim) (terms_of c) c.samples (far_of c) (start_cells c) r work counts (Ok None) → Ended c r.events work counts (Ok used)
+  all_done used n o =
+      let is : update_alone c ≡ completed r = ap (λ (q : Outcome Unit). and_then q (λ u. update_of c)) h.checked ∙ h.repairs ∙ o.0 in record {
+        answers = ap completed n ∙ sym (ap event_count is);
+        done = λ x e.
+            subst (λ (y : Repaired). (r.events ≡ y.events) × Under c c.size y work counts) (completed_same r x (sym is ∙ e))
+            (refl, record { checked = h.checked; repairs = h.repairs; running = o.1 });
+        checked = h.checked;
+      }
 
-  pub is_refused : (s : Step) (x : Refusal) → s.going ≡ false → s.begun ≡ true → s.answer ≡ updated.Refused x
-      → Turned (places_of c.size c.dim) (numbers_of c.size c.dim) (terms_of c) c.samples (far_of c) (start_cells c) r work counts (Refused x) → UpdateProgress c r.events work counts s
-  is_refused s x g b a o = not_repaired c r.events work counts s x g b a h.checked (h.repairs ∙ o)
+  pub is_refused : (x : Refusal) → Turned (places_of c.size c.dim) (numbers_of c.size c.dim) (terms_of c) c.samples (far_of c) (start_cells c) r work counts (Err x) → Ended c r.events work counts (Err x)
+  is_refused x o = not_repaired c r.events work counts x h.checked (h.repairs ∙ o)
 
 -- ---- the repair after one that was made
-pub ready_at : {t : UpdateTerms} {xs : List Float} {slots used : ℕ} {work : List Float} {counts : List ℕ} (s : Step) → ReadyUpdate t xs slots used work counts s → ReadyAt t xs slots used work counts s.next
-ready_at s h = record {
+pub ready_at : {t : UpdateTerms} {xs : List Float} {slots used : ℕ} {work : List Float} {counts : List ℕ} (x : Repair) → ReadyUpdate t xs slots used work counts x → ReadyAt t xs slots used work counts x.next
+ready_at x h = record {
   call = h.call;
   r = h.going.r;
   matches = h.matches;
   under = h.going.under;
-  used = omega (arith, h.used, ap length h.going.last, length-append h.events (s.event ∷ []));
+  used = omega (arith, h.used, ap length h.going.last, length-append h.events (x.event ∷ []));
 }

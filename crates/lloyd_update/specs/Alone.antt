@@ -1,10 +1,8 @@
 -- Update called alone: its checks in document 01's order, and what it leaves in every lent buffer. Definitions only.
-use Rattle.std.specs.Prelude.{ℕ, ◌+◌, ◌*◌, ◌/◌, false, cond, not, leb, List, [], ◌∷◌, ◌++◌, length, drop, replicate, pos, ◌==◌, nat_le, slice_index, Float}
+use Rattle.std.specs.Prelude.{ℕ, ◌+◌, ◌*◌, ◌/◌, false, cond, not, leb, List, [], ◌∷◌, ◌++◌, length, drop, replicate, pos, ◌==◌, nat_le, slice_index, Float, Option, None, Some}
 use Rattle.std.specs.Float.{fin}
 use Rattle.error.specs.Names.{assignment_slice, event_slice, float_work_slice, initial_slice, integer_work_slice, samples_slice}
 use Rattle.error.specs.Numbers.{Outcome, completed, refused, and_then, whole, leaves}
-use Rattle.slices.specs.declared.First.{First}
-use Rattle.slices.specs.declared.First.TheVariants.{Nowhere, At}
 use Rattle.slices.specs.First.{first_where}
 use Rattle.slices.specs.Limit.{first_outside, bounded}
 use Rattle.slices.specs.Lists.{words_of}
@@ -35,9 +33,9 @@ abbrev pub update_limit : Float
 update_limit = fin false 1 (pos 48)
 
 -- 11 at the first assignment that is no cell, with its value and the number of cells
-abbrev pub only_cells : List ℕ → ℕ → First → Outcome Unit
-only_cells cells n Nowhere = completed tt
-only_cells cells n (At s) = refused 11 (whole (slice_index cells s) ∷ whole n ∷ [])
+abbrev pub only_cells : List ℕ → ℕ → Option ℕ → Outcome Unit
+only_cells cells n None = completed tt
+only_cells cells n (Some s) = refused 11 (whole (slice_index cells s) ∷ whole n ∷ [])
 
 -- 18 for the codebook, then the samples; then 11
 unfoldable pub value_checks : ℕ → List Float → List Float → List ℕ → Outcome Unit

@@ -1,8 +1,9 @@
 -- How far an update called alone has come. Definitions only.
-use Rattle.std.specs.Prelude.{◌≡◌, ℕ, suc, ◌+◌, ◌*◌, ◌/◌, ◌<◌, ◌≤◌, Bool, true, false, List, [], ◌∷◌, ◌++◌, length, pos, ◌≢◌, slice_index, slice_index_or, Float}
+use Rattle.std.specs.Prelude.{◌≡◌, ℕ, suc, ◌+◌, ◌*◌, ◌/◌, ◌<◌, ◌≤◌, List, [], ◌∷◌, ◌++◌, length, pos, slice_index, slice_index_or, Float, Result}
 use Rattle.std.specs.Float.{nan, binary64}
 use Rattle.std.specs.Float.Ieee.{of_int}
-use Rattle.error.specs.Numbers.{Outcome, completed, and_then, refusal}
+use Rattle.error.specs.Numbers.{completed, refusal, outcome, and_then}
+use Rattle.error.specs.declared.Refusal.{Refusal}
 use Rattle.lloyd_search.specs.Distance.{row_of}
 use Rattle.lloyd_events.specs.declared.LloydRepairEvent.{LloydRepairEvent}
 use Rattle.lloyd_cells.specs.declared.Places.{Places}
@@ -11,17 +12,13 @@ use Rattle.lloyd_cells.specs.Repair.{Cells, Repaired, repair_to}
 use Rattle.lloyd_cells.specs.Update.{means, farthest_sample, old_distance}
 use Rattle.lloyd_cells.specs.Work.{places_at, Gathered}
 use Rattle.lloyd_repair.specs.declared.Numbers.{Numbers}
+use Rattle.lloyd_repair.specs.declared.Numbers.TheVariants.{InFloats}
 use Rattle.lloyd_repair.specs.Running.{Running}
-use Rattle.lloyd_update.specs.declared.Updated.{Updated}
-use Rattle.lloyd_update.specs.declared.Updated.TheVariants.{Repairs, Refused}
 use Rattle.lloyd_update.specs.declared.UpdateTerms.{UpdateTerms}
+use Rattle.lloyd_repair.specs.declared.Repair.{Repair}
 use Rattle.lloyd_update.specs.declared.Step.{Step}
+use Rattle.lloyd_update.specs.declared.Step.TheVariants.{Refused, Made, Stopped}
 use Rattle.lloyd_update.specs.Alone.{Call, terms_of, update_checks, update_of, update_alone}
-
--- the answer of an update
-abbrev pub updated_of : Updated → Outcome ℕ
-updated_of (Repairs n) = completed n
-updated_of (Refused r) = refusal r
 
 -- Update alone lends 2 * n * k + 2 * n floats: the words, room for the
 -- numbers of the farthest samples, the distortions, the farthest distances.
@@ -29,7 +26,7 @@ abbrev pub places_of : ℕ → ℕ → Places
 places_of n k = places_at 0 (2 * (n * k)) n
 
 abbrev pub numbers_of : ℕ → ℕ → Numbers
-numbers_of n k = record { start = n * k; in_floats = true }
+numbers_of n k = InFloats (n * k)
 
 -- the call that the arguments make
 abbrev pub call_of : UpdateTerms → List Float → List Float → List ℕ → ℕ → ℕ → ℕ → Call
@@ -86,25 +83,24 @@ pub record Under (c : Call) (next : ℕ) (r : Repaired) (work : List Float) (cou
 
 -- a repair was made; its event waits to be written after `events`
 pub record Going (c : Call) (events : List LloydRepairEvent) (work : List Float) (counts : List ℕ)
-    (s : Step) : Type 0 where
+    (made : Repair) : Type 0 where
   pub r : Repaired
-  pub under : Under c s.next r work counts
-  pub last : r.events ≡ events ++ (s.event ∷ [])
+  pub under : Under c made.next r work counts
+  pub last : r.events ≡ events ++ (made.event ∷ [])
   pub room : length events < c.slots
-  pub begun : s.begun ≡ true
 
--- the update has come to its end, and `events` are its events
+-- the update has come to its end after its checks, and `events` are its events
 pub record Ended (c : Call) (events : List LloydRepairEvent) (work : List Float) (counts : List ℕ)
-    (s : Step) : Type 0 where
-  pub answer : updated_of s.answer ≡ and_then (update_alone c) (λ r. completed (length r.events))
+    (answer : Result ℕ Refusal) : Type 0 where
+  pub answers : outcome answer ≡ and_then (update_alone c) (λ r. completed (length r.events))
   pub done : (r : Repaired) → update_alone c ≡ completed r → (events ≡ r.events) × Under c c.size r work counts
-  pub begun : s.begun ≡ true → update_checks c ≡ completed tt
-  pub early : s.begun ≡ false → (u : Unit) → update_checks c ≢ completed u
+  pub checked : update_checks c ≡ completed tt
 
--- either
+-- one of them, or the checks refused it
 abbrev pub UpdateProgress : Call → List LloydRepairEvent → List Float → List ℕ → Step → Type 0
-UpdateProgress c events work counts s = (s.going ≡ true → Going c events work counts s)
-    × (s.going ≡ false → Ended c events work counts s)
+UpdateProgress c events work counts (Refused x) = update_checks c ≡ refusal x
+UpdateProgress c events work counts (Made r) = Going c events work counts r
+UpdateProgress c events work counts (Stopped a) = Ended c events work counts a
 
 -- the numbers that a call was made with
 pub record Matches (c : Call) (t : UpdateTerms) (xs : List Float) (most : ℕ) : Type 0 where
@@ -117,11 +113,11 @@ pub record Matches (c : Call) (t : UpdateTerms) (xs : List Float) (most : ℕ) :
 
 -- some update is going on
 pub record ReadyUpdate (t : UpdateTerms) (samples : List Float) (slots m : ℕ) (work : List Float) (counts : List ℕ)
-    (s : Step) : Type 0 where
+    (made : Repair) : Type 0 where
   pub call : Call
   pub events : List LloydRepairEvent
   pub matches : Matches call t samples slots
-  pub going : Going call events work counts s
+  pub going : Going call events work counts made
   pub used : m ≡ suc (length events)
 
 -- the same, at the cell whose turn is next
@@ -146,8 +142,3 @@ pub record Addable (n k : ℕ) (codebook samples : List Float) (assignments : Li
   pub floats : length work ≡ 2 * (n * k) + 2 * n
   pub integers : length counts ≡ n
   pub start : (c : ℕ) → c < n → slice_index counts c ≡ 0
-
--- whether an answer is a number of repairs
-abbrev pub is_accepted : Updated → Bool
-is_accepted (Repairs n) = true
-is_accepted (Refused r) = false

@@ -3,31 +3,19 @@
 // above. The public functions are public only for the crates above.
 #![tactic(auto)]
 
-ghost use Rattle.std.specs.Prelude.{◌≡◌, ◌+◌, ◌*◌, ◌/◌, ◌<◌, ◌≤◌, true, false, cond, ◌&&◌, List, [], ◌∷◌, ◌++◌, length, take, replicate, pos, if◌then◌else◌, slice_index};
-ghost use Rattle.std.specs.Float.{fin};
-ghost use Rattle.error.specs.Numbers.{checked};
+ghost use Rattle.std.specs.Prelude.{◌≡◌, ◌+◌, ◌*◌, ◌/◌, ◌<◌, ◌≤◌, true, false, cond, ◌&&◌, List, [], ◌∷◌, ◌++◌, length, take, replicate, pos, if◌then◌else◌, slice_index, is_ok};
+ghost use Rattle.error.specs.Numbers.{outcome};
 ghost use Rattle.ieee.specs.Sum.{plus_zero};
-ghost use Rattle.slices.specs.Lists.{patched};
 ghost use Rattle.lloyd_events.specs.declared.LloydRepairEvent.{LloydRepairEvent};
-ghost use Rattle.lloyd_events.specs.Events.{zero_event};
 ghost use Rattle.lloyd_cells.specs.Cells.{count_to};
 ghost use Rattle.lloyd_cells.specs.Repair.{Repaired};
 ghost use Rattle.lloyd_update.specs.Alone.{Call, update_checks, value_checks};
-ghost use Rattle.lloyd_update.specs.Progress.{call_of, places_of, Addable, Added, Matches, ReadyUpdate, ReadyAt, Going, Under, UpdateProgress, is_accepted};
+ghost use Rattle.lloyd_update.specs.Progress.{call_of, places_of, Addable, Added, Matches, ReadyUpdate, ReadyAt, Going, Under, UpdateProgress};
 
-use error::{Checked, Refusal, names};
+use error::{Refusal, Slice};
 use lloyd_cells::Places;
-use lloyd_events::LloydRepairEvent;
-use lloyd_repair::{Numbers, RepairTerms, Turn};
+use lloyd_repair::{Numbers, Repair, RepairTerms};
 use profile::EmptyCellPolicy;
-use slices::First;
-
-// The answer of an update: how many cells were repaired.
-#[derive(Clone, Copy)]
-pub enum Updated {
-    Repairs(u32),
-    Refused(Refusal),
-}
 
 // What an update is told beside its slices.
 #[derive(Clone, Copy)]
@@ -39,17 +27,15 @@ pub struct UpdateTerms {
     pub iteration: u32,
 }
 
-// Where an update stands: a repair was made and its event is to be written, or it has stopped with its answer.
-// Nothing reads its answer while it goes on, nor its event and next cell once it has stopped: there they are free.
+// Where an update stands.
 #[derive(Clone, Copy)]
-pub struct Step {
-    pub going: bool,
-    // Updating has begun, so that work and event slots are zeroed if it is refused.
-    pub begun: bool,
-    pub event: LloydRepairEvent,
-    // The cell whose turn is next.
-    pub next: usize,
-    pub answer: Updated,
+pub enum Step {
+    // The checks refused it, and nothing was written.
+    Refused(Refusal),
+    // A repair was made, and its event is to be written.
+    Made(Repair),
+    // It has come to its answer, and work is to be zeroed.
+    Stopped(Result<u32, Refusal>),
 }
 
 // The largest magnitude that an update takes: 2 ^ 48.
@@ -64,66 +50,66 @@ fn check_update(
     integers: usize,
     slots: usize,
     t: UpdateTerms,
-) -> Checked
-    ensures { checked result
+) -> Result<(), Refusal>
+    ensures { outcome result
         ≡ update_checks (call_of t codebook.now samples.now
         assignments.now floats integers slots) }
 {
     let n = t.codebook_size;
     let k = t.block_dim;
     if !lloyd_search::codebook_shaped(n, k, codebook.len()) {
-        return Checked::Refused(Refusal::SliceLength(names::INITIAL_SLICE));
+        return Err(Refusal::SliceLength(Slice::Initial));
     }
     if !lloyd_search::samples_shaped(k, samples.len()) {
-        return Checked::Refused(Refusal::SliceLength(names::SAMPLES_SLICE));
+        return Err(Refusal::SliceLength(Slice::Samples));
     }
     if floats as u64 != 2 * (n * k) + 2 * n {
-        return Checked::Refused(Refusal::SliceLength(names::FLOAT_WORK_SLICE));
+        return Err(Refusal::SliceLength(Slice::FloatWork));
     }
     if integers as u64 != n {
-        return Checked::Refused(Refusal::SliceLength(names::INTEGER_WORK_SLICE));
+        return Err(Refusal::SliceLength(Slice::IntegerWork));
     }
     if lloyd_events::MAX_EVENT_SLOTS < slots {
-        return Checked::Refused(Refusal::SliceLength(names::EVENT_SLICE));
+        return Err(Refusal::SliceLength(Slice::Events));
     }
     if assignments.len() as u64 != samples.len() as u64 / k {
-        return Checked::Refused(Refusal::SliceLength(names::ASSIGNMENT_SLICE));
+        return Err(Refusal::SliceLength(Slice::Assignments));
     }
     check_values(codebook, samples, assignments, n)
 }
 
 // The values of codebook and samples, then the assignments.
-fn check_values(codebook: &[f64], samples: &[f64], assignments: &[u32], n: u64) -> Checked
+fn check_values(
+    codebook: &[f64],
+    samples: &[f64],
+    assignments: &[u32],
+    n: u64,
+) -> Result<(), Refusal>
     requires { n < 4294967296 }
-    ensures { checked result
+    ensures { outcome result
         ≡ value_checks n codebook.now samples.now assignments.now }
 {
-    let bad = slices::first_outside(codebook, UPDATE_LIMIT);
-    if let First::At(place) = bad {
-        return Checked::Refused(Refusal::OutOfBounds {
-            slice: names::INITIAL_SLICE,
+    if let Some(place) = slices::first_outside(codebook, UPDATE_LIMIT) {
+        return Err(Refusal::OutOfBounds {
+            slice: Slice::Initial,
             place: place as u64,
         });
     }
-    let bad = slices::first_outside(samples, UPDATE_LIMIT);
-    if let First::At(place) = bad {
-        return Checked::Refused(Refusal::OutOfBounds {
-            slice: names::SAMPLES_SLICE,
+    if let Some(place) = slices::first_outside(samples, UPDATE_LIMIT) {
+        return Err(Refusal::OutOfBounds {
+            slice: Slice::Samples,
             place: place as u64,
         });
     }
-    let mut s = 0usize;
-    while s < assignments.len() {
-        let cell = assignments[s];
-        if n <= cell as u64 {
-            return Checked::Refused(Refusal::IndexOutOfRange {
-                index: cell,
+    for cell in assignments {
+        if n <= *cell as u64 {
+            return Err(Refusal::IndexOutOfRange {
+                index: *cell,
                 bound: n as u32,
             });
         }
-        s += 1usize;
     }
-    Checked::Accepted
+    Ok(())
 }
 
 // Where the parts of an update alone begin in its float work.
@@ -132,24 +118,6 @@ fn places(n: usize, k: usize) -> Places
     ensures { result ≡ places_of n k }
 {
     Places::at(0, 2 * (n * k), n)
-}
-
-// Nothing is added up yet: zeros, and farthest distances below every distance.
-fn clear(work: &mut [f64], counts: &mut [u32], n: usize, k: usize)
-    requires { (0 < k) × (length work.old ≡ 2 * (n * k) + 2 * n) × (length counts.old ≡ n) }
-    ensures work { work.new
-        ≡ patched (replicate (length work.old) plus_zero) (2 * (n * k) + n) n (λ i. fin true 1 (pos 0)) }
-    ensures counts { counts.new ≡ replicate n 0 }
-{
-    slices::zero_f64(&mut *work);
-    slices::zero_u32(counts);
-    let mut i = 2 * (n * k) + n;
-    let mut c = 0usize;
-    while c < n {
-        work[i] = -1.0;
-        i += 1usize;
-        c += 1usize;
-    }
 }
 
 // Every sample is added to its cell, and the number of each cell's farthest sample noted.
@@ -170,53 +138,28 @@ fn add_samples(
 {
     let p = places(n, k);
     let numbers = n * k;
-    let mut s = 0usize;
-    let mut at = 0usize;
-    while s < assignments.len() {
-        let end = at + k;
-        let cell = assignments[s] as usize;
+    for (s, cell) in assignments.iter().enumerate() {
+        let cell = *cell as usize;
+        let at = s * k;
         let from = cell * k;
-        let to = from + k;
-        let d = lloyd_search::squared_distance(&samples[at..end], &codebook[from..to]);
-        if lloyd_cells::gather(&mut *work, &mut *counts, p, cell, n, &samples[at..end], d) {
+        let sample = &samples[at..at + k];
+        let d = lloyd_search::squared_distance(sample, &codebook[from..from + k]);
+        if lloyd_cells::gather(&mut *work, &mut *counts, p, cell, n, sample, d) {
             let number = numbers + cell;
             work[number] = std::num::nearest_u64_to_f64(s as u64);
         }
-        at = end;
-        s += 1usize;
     }
 }
 
 // How many cells are empty.
+#[tactic(auto, using(crate::proofs::CountLaw::counted_items))]
 pub fn count_empty(counts: &[u32]) -> usize
     ensures { result ≡ count_to (λ c. slice_index counts.now c) 0 (length counts.now) }
 {
-    let mut empty = 0usize;
-    let mut c = 0usize;
-    while c < counts.len() {
-        if counts[c] == 0 {
-            empty += 1usize;
-        }
-        c += 1usize;
-    }
-    empty
+    counts.iter().filter(|count| **count == 0).count()
 }
 
-// Stopped with an answer, before updating began or once it has.
-fn stop(begun: bool, answer: Updated) -> Step
-    ensures { (result.going ≡ false) × (result.begun ≡ begun) × (result.answer ≡ answer) × (result.event ≡ zero_event)
-        × (result.next ≡ 0) }
-{
-    Step {
-        going: false,
-        begun,
-        event: lloyd_events::zero_event(),
-        next: 0,
-        answer,
-    }
-}
-
-// The next repair after the one that s made, whose event is the last of `used` events. What stands in work and counts
+// The next repair after one that was made, whose event is the last of `used` events. What stands in work and counts
 // is for the next steps; where it is refused it is left for the end to zero.
 pub fn next_repair(
     samples: &[f64],
@@ -225,17 +168,17 @@ pub fn next_repair(
     slots: usize,
     used: usize,
     t: UpdateTerms,
-    s: Step,
+    made: Repair,
 ) -> Step
-    requires { ReadyUpdate t samples.now slots used work.old counts.old s }
+    requires { ReadyUpdate t samples.now slots used work.old counts.old made }
     ensures { (c : Call) (events : List LloydRepairEvent) → Matches c t samples.now slots
-        → used ≡ length (events ++ (s.event ∷ [])) → Going c events work.old counts.old s
-        → UpdateProgress c (events ++ (s.event ∷ [])) work.new counts.new result }
+        → used ≡ length (events ++ (made.event ∷ [])) → Going c events work.old counts.old made
+        → UpdateProgress c (events ++ (made.event ∷ [])) work.new counts.new result }
 {
-    repair_on(samples, work, counts, slots, used, t, s.next)
+    repair_on(samples, work, counts, slots, used, t, made.next)
 }
 
-// The repairs from a cell on, up to the next one that is made. While the update goes on, its answer is free.
+// The repairs from a cell on, up to the next one that is made.
 fn repair_on(
     samples: &[f64],
     work: &mut [f64],
@@ -252,10 +195,7 @@ fn repair_on(
 {
     let n = t.codebook_size as usize;
     let k = t.block_dim as usize;
-    let numbers = Numbers {
-        start: n * k,
-        in_floats: true,
-    };
+    let numbers = Numbers::InFloats(n * k);
     let terms = RepairTerms {
         dim: k,
         cells: n,
@@ -274,15 +214,9 @@ fn repair_on(
         from,
         used,
     ) {
-        Turn::Repair(event, next) => Step {
-            going: true,
-            begun: true,
-            event,
-            next,
-            answer: Updated::Repairs(0),
-        },
-        Turn::Done => stop(true, Updated::Repairs(used as u32)),
-        Turn::Refused(r) => stop(true, Updated::Refused(r)),
+        Ok(Some(repair)) => Step::Made(repair),
+        Ok(None) => Step::Stopped(Ok(used as u32)),
+        Err(refusal) => Step::Stopped(Err(refusal)),
     }
 }
 
@@ -300,10 +234,10 @@ pub fn begin_update(
     ensures progress { UpdateProgress
         (call_of t codebook.now samples.now assignments.now (length work.old)
         (length counts.old) slots) [] work.new counts.new result }
-    ensures early { result.begun ≡ false → (work.new ≡ work.old)
+    ensures early { (x : Refusal) → result ≡ Step.Refused x → (work.new ≡ work.old)
         × (counts.new ≡ counts.old) }
 {
-    if let Checked::Refused(r) = check_update(
+    if let Err(r) = check_update(
         codebook,
         samples,
         assignments,
@@ -312,11 +246,12 @@ pub fn begin_update(
         slots,
         t,
     ) {
-        return stop(false, Updated::Refused(r));
+        return Step::Refused(r);
     }
     let n = t.codebook_size as usize;
     let k = t.block_dim as usize;
-    clear(&mut *work, &mut *counts, n, k);
+    let p = places(n, k);
+    lloyd_cells::clear(&mut *work, &mut *counts, p, n);
     add_samples(
         codebook,
         samples,
@@ -326,48 +261,36 @@ pub fn begin_update(
         n,
         k,
     );
-    lloyd_cells::means(&mut *work, &*counts, places(n, k), n, k);
+    lloyd_cells::means(&mut *work, &*counts, p, n, k);
     let empty = count_empty(&*counts);
     let policy = t.policy;
     if let EmptyCellPolicy::FailClosed = policy {
         if 0 < empty {
-            return stop(true, Updated::Refused(Refusal::EmptyCells(empty as u64)));
+            return Step::Stopped(Err(Refusal::EmptyCells(empty as u64)));
         }
     }
     repair_on(samples, work, counts, slots, 0, t, 0)
 }
 
-// The end: an accepted update writes the codebook, and work is zeroed once updating has begun.
-pub fn finish_update(codebook: &mut [f64], work: &mut [f64], counts: &mut [u32], s: Step) -> Updated
-    requires { s.begun ≡ true → length codebook.old ≤ length work.old }
-    ensures answer { result ≡ s.answer }
+// The end of an update that passed its checks: it writes the codebook where it is accepted, and zeroes the work.
+pub fn finish_update(
+    codebook: &mut [f64],
+    work: &mut [f64],
+    counts: &mut [u32],
+    answer: Result<u32, Refusal>,
+) -> Result<u32, Refusal>
+    requires { is_ok answer ≡ true → length codebook.old ≤ length work.old }
+    ensures answer { result ≡ answer }
     ensures codebook { codebook.new
-        ≡ cond (s.begun && is_accepted s.answer) (take (length codebook.old) work.old)
-        codebook.old }
-    ensures work { work.new
-        ≡ (if s.begun then replicate (length work.old) plus_zero else work.old) }
-    ensures counts { counts.new
-        ≡ (if s.begun then replicate (length counts.old) 0 else counts.old) }
+        ≡ cond (is_ok answer) (take (length codebook.old) work.old) codebook.old }
+    ensures work { work.new ≡ replicate (length work.old) plus_zero }
+    ensures counts { counts.new ≡ replicate (length counts.old) 0 }
 {
-    let answer = s.answer;
-    if s.begun {
-        if let Updated::Repairs(_) = answer {
-            copy_words(codebook, &*work);
-        }
-        slices::zero_f64(work);
-        slices::zero_u32(counts);
+    if let Ok(_) = answer {
+        let words = codebook.len();
+        codebook.copy_from_slice(&work[..words]);
     }
+    slices::zero_f64(work);
+    slices::zero_u32(counts);
     answer
-}
-
-// The codebook becomes the first values of the work.
-fn copy_words(codebook: &mut [f64], work: &[f64])
-    requires { length codebook.old ≤ length work.now }
-    ensures { codebook.new ≡ take (length codebook.old) work.now }
-{
-    let mut i = 0usize;
-    while i < codebook.len() {
-        codebook[i] = work[i];
-        i += 1usize;
-    }
 }

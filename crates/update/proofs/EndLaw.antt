@@ -1,15 +1,19 @@
 -- The end of an update alone: what its last step and the events
 -- so far say of its answer and of the buffers. Assumes nothing.
+use Rattle.std.specs.Prelude.{Err, Result, Ok, is_ok}
+use Rattle.std.specs.Result.{is_err}
 use mathlib.Core.Path.{◌≡◌, refl, sym, ap, ◌∙◌}
 use Prim.Native.Nat.{ℕ, ◌+◌, ◌*◌, ◌/◌, ◌%◌, ◌≤◌, ◌<◌}
 use native.Mathlib.Nat.{le_refl, zero-add, mod-lt, div-lt_iff_lt-mul, div-add-mod'}
 use native.Mathlib.Omega.{arith}
-use mathlib.Core.Bool.{Bool, true, false, not, ◌&&◌, cond}
-use mathlib.Core.List.{List, []}
+use mathlib.Core.Bool.{Bool, true, false, cond}
+use mathlib.Core.List.{List}
 use lib.ListN.{length, get_or, take, replicate}
 use lib.Seq.{length-take-le, get_or-take}
 use lib.Ieee.{Float, nan}
-use Rattle.error.specs.Numbers.{Value, Outcome, completed, refused, and_then}
+use Rattle.error.specs.Numbers.{Value, Outcome, completed, refused, refusal, and_then, leaves, outcome}
+use Rattle.error.proofs.Refusals.{by_refusal}
+use Rattle.error.specs.declared.Refusal.{Refusal}
 use Rattle.slices.specs.Lists.{tabulate, words_of}
 use Rattle.slices.proofs.TabulateLaw.{tabulate_is}
 use Rattle.lloyd_events.specs.declared.LloydRepairEvent.{LloydRepairEvent}
@@ -17,22 +21,28 @@ use Rattle.lloyd_events.specs.Events.{zero_event}
 use Rattle.lloyd_events.proofs.Log.{logged}
 use Rattle.lloyd_cells.specs.Repair.{Repaired}
 use Rattle.lloyd_cells.proofs.TallyLaw.{tallied, tallied_some}
-use Rattle.lloyd_update.specs.declared.Updated.{Updated}
-use Rattle.lloyd_update.specs.declared.Updated.TheVariants as updated
-use Rattle.lloyd_update.specs.declared.Step.{Step}
 use Rattle.lloyd_update.specs.Alone.{Call, terms_of, update_checks, update_of, update_alone, codebook_after, work_after, slots_after}
-use Rattle.lloyd_update.specs.Progress.{updated_of, start_cells, far_of, Under, Ended, is_accepted}
+use Rattle.lloyd_update.specs.Progress.{start_cells, far_of, Under, Ended}
 use Rattle.lloyd_update.proofs.CheckLaw.{checks_passed}
 use Rattle.lloyd_update.proofs.RepairsLaw.{event_count, not_completed}
 
 -- ---- the answer's case is the outcome's
-accepted : (a : Updated) (n : ℕ) → updated_of a ≡ completed n → is_accepted a ≡ true
-accepted (updated.Repairs m) n e = refl
-accepted (updated.Refused x) n e = absurd (not_completed x n e)
+accepted : (a : Result ℕ Refusal) (n : ℕ) → outcome a ≡ completed n → is_ok a ≡ true
+accepted (Ok m) n e = refl
+accepted (Err x) n e = absurd (not_completed x n e)
 
-not_accepted : (a : Updated) (n : ℕ) (vs : List Value) → updated_of a ≡ refused n vs → is_accepted a ≡ false
-not_accepted (updated.Repairs m) n vs e = let z : ◌≡◌ {A = ℕ} 0 1 = cc in absurd (omega arith)
-not_accepted (updated.Refused x) n vs e = refl
+not_accepted : (a : Result ℕ Refusal) (n : ℕ) (vs : List Value) → outcome a ≡ refused n vs → is_ok a ≡ false
+not_accepted (Ok m) n vs e = let z : ◌≡◌ {A = ℕ} 0 1 = cc in absurd (omega arith)
+not_accepted (Err x) n vs e = refl
+
+-- the slots are zeroed where the answer is an error
+pub zeroed : {A : Type 0} (a : Result ℕ Refusal) (l z : A) → is_err a ≡ true → z ≡ cond (is_ok a) l z
+zeroed (Ok m) l z h = cc
+zeroed (Err x) l z h = refl
+
+pub kept : {A : Type 0} (a : Result ℕ Refusal) (l z : A) → is_err a ≡ false → l ≡ cond (is_ok a) l z
+kept (Ok m) l z h = refl
+kept (Err x) l z h = cc
 
 -- ---- the words of a finished update stand first in its work
 words_held : (c : Call) (r : Repaired) (work : List Float) (counts : List ℕ) → Under c c.size r work counts → take (c.size * c.dim) work ≡ words_of c.size c.dim r.cells.word
@@ -51,58 +61,49 @@ words_held c r work counts h =
     ∙ u.held.words (i / k) (i % k) q (mod-lt i some) (full (i / k) q))
     ∙ ap (λ (z : ℕ). tabulate z (λ i. r.cells.word (i / k) (i % k))) size
 
--- ---- how an update that has stopped came out
-pub data Came (c : Call) (s : Step) : Type 0 where
-  unchecked : (n : ℕ) (vs : List Value) → s.begun ≡ false → update_checks c ≡ refused n vs → Came c s
-  done : (r : Repaired) → s.begun ≡ true → is_accepted s.answer ≡ true → update_checks c ≡ completed tt → update_of c ≡ completed r → Came c s
-  late : (n : ℕ) (vs : List Value) → s.begun ≡ true → is_accepted s.answer ≡ false → update_checks c ≡ completed tt → update_of c ≡ refused n vs → Came c s
+-- ---- refused by a check, an update leaves every buffer as it was
+module _ (c : Call) (x : Refusal) (k : update_checks c ≡ refusal x) where
+  pub refused_alone : outcome {A = ℕ} (Err x) ≡ and_then (update_alone c) (λ r. completed (length r.events))
+  refused_alone =
+      rw k
+      (by_refusal {A = Unit} {B = ℕ} (λ o p. p ≡ and_then (and_then o (λ u. update_of c)) (λ r. completed (length r.events))) (λ n vs. refl) x)
 
-module _ (c : Call) (events : List LloydRepairEvent) (work : List Float) (counts : List ℕ) (s : Step) (e : Ended c events work counts s) where
-  alone : update_checks c ≡ completed tt → (o : Outcome Repaired) → update_of c ≡ o → update_alone c ≡ o
-  alone k o q = ap (λ (x : Outcome Unit). and_then x (λ u. update_of c)) k ∙ q
+  pub left : {A : Type 0} (before begun : A) (done : Repaired → A) → before ≡ leaves (update_checks c) (update_of c) before done begun
+  left {A} before begun done =
+      rw k
+      (by_refusal {A = Unit} {B = Unit} (λ o p. before ≡ leaves o (update_of c) before done begun) (λ n vs. refl) x)
 
-  came : Came c s
-  came = go s.begun refl (update_checks c) refl
+-- ---- once it has begun
+module _ (c : Call) (events : List LloydRepairEvent) (work : List Float) (counts : List ℕ) (a : Result ℕ Refusal) (e : Ended c events work counts a) where
+  alone : (o : Outcome Repaired) → update_of c ≡ o → update_alone c ≡ o
+  alone o q = ap (λ (x : Outcome Unit). and_then x (λ u. update_of c)) e.checked ∙ q
+
+  -- work is long enough for the codebook
+  pub long_enough : length work ≡ c.float_work → length c.codebook ≤ length work
+  long_enough l = let p = checks_passed c e.checked in omega (arith, l, p.floats, p.book.length_is)
+
+  -- what is said of both outcomes, each with the answer's case, is said of the update's
+  by : (P : Bool → Outcome Repaired → Type 0) → ((r : Repaired) → update_of c ≡ completed r → P true (completed r)) → ((n : ℕ) (vs : List Value) → P false (refused n vs)) → P (is_ok a) (update_of c)
+  by P done late = go (update_of c) refl
     where
-      begun : s.begun ≡ true → update_checks c ≡ completed tt → (o : Outcome Repaired) → update_of c ≡ o → Came c s
-      begun b k (completed r) q = done r b (accepted s.answer (length r.events) (e.answer ∙ ap event_count (alone k (completed r) q))) k q
-      begun b k (refused n vs) q = late n vs b (not_accepted s.answer n vs (e.answer ∙ ap event_count (alone k (refused n vs) q))) k q
+      go : (o : Outcome Repaired) → update_of c ≡ o → P (is_ok a) (update_of c)
+      go (completed r) q = rw (accepted a (length r.events) (e.answers ∙ ap event_count (alone (completed r) q)), q) (done r q)
+      go (refused n vs) q = rw (not_accepted a n vs (e.answers ∙ ap event_count (alone (refused n vs) q)), q) (late n vs)
 
-      go : (b : Bool) → s.begun ≡ b → (o : Outcome Unit) → update_checks c ≡ o → Came c s
-      go true b o k = begun b (e.begun b) (update_of c) refl
-      go false b (completed u) k = absurd (e.early b u k)
-      go false b (refused n vs) k = unchecked n vs b k
+  pub codebook_is : cond (is_ok a) (take (length c.codebook) work) c.codebook ≡ codebook_after c
+  codebook_is =
+      let size = (checks_passed c e.checked).book.length_is in
+      rw e.checked
+      (by (λ b o. cond b (take (length c.codebook) work) c.codebook ≡ leaves (completed tt) o c.codebook (λ r. words_of c.size c.dim r.cells.word) c.codebook)
+      (λ r q. rw size (words_held c r work counts (e.done r (alone (completed r) q)).1)) (λ n vs. refl))
 
-  pub answered : (a : Updated) → a ≡ s.answer → updated_of a ≡ and_then (update_alone c) (λ r. completed (length r.events))
-  answered a is = ap updated_of is ∙ e.answer
+  pub work_is : {A : Type 0} (nought : A) (before : List A) (m : ℕ) → m ≡ length before → replicate m nought ≡ work_after nought c before
+  work_is {A} nought before m l =
+      rw (e.checked, l)
+      (by (λ b o. replicate (length before) nought ≡ leaves (completed tt) o before (λ r. replicate (length before) nought) (replicate (length before) nought)) (λ r q. refl) (λ n vs. refl))
 
-  -- once updating has begun, the work is long enough for the codebook
-  pub long_enough : length work ≡ c.float_work → s.begun ≡ true → length c.codebook ≤ length work
-  long_enough l b = let p = checks_passed c (e.begun b) in omega (arith, l, p.floats, p.book.length_is)
-
-  pub codebook_is : cond (s.begun && is_accepted s.answer) (take (length c.codebook) work) c.codebook ≡ codebook_after c
-  codebook_is = by came
-    where
-      by : Came c s → cond (s.begun && is_accepted s.answer) (take (length c.codebook) work) c.codebook ≡ codebook_after c
-      by (unchecked n vs b k) = rw (b, k)
-      by (done r b a k q) =
-          let size = (checks_passed c k).book.length_is in
-          rw (b, a, k, q, size) (words_held c r work counts (e.done r (alone k (completed r) q)).1)
-      by (late n vs b a k q) = rw (b, a, k, q)
-
-  -- work that no check refused is zeroed, else it is as it was
-  pub work_is : {A : Type 0} (nought : A) (now before : List A) → length now ≡ length before → (s.begun ≡ false → now ≡ before) → cond s.begun (replicate (length now) nought) now ≡ work_after nought c before
-  work_is {A} nought now before l early = by came
-    where
-      by : Came c s → cond s.begun (replicate (length now) nought) now ≡ work_after nought c before
-      by (unchecked n vs b k) = rw (b, k) (early b)
-      by (done r b a k q) = rw (b, k, q, l)
-      by (late n vs b a k q) = rw (b, k, q, l)
-
-  pub slots_are : (slots : List LloydRepairEvent) → (s.begun ≡ false → events ≡ []) → cond (s.begun && not (is_accepted s.answer)) (replicate (length slots) zero_event) (logged events slots) ≡ slots_after c slots
-  slots_are slots early = by came
-    where
-      by : Came c s → cond (s.begun && not (is_accepted s.answer)) (replicate (length slots) zero_event) (logged events slots) ≡ slots_after c slots
-      by (unchecked n vs b k) = rw (b, k) (ap (λ (z : List LloydRepairEvent). logged z slots) (early b))
-      by (done r b a k q) = rw (b, a, k, q) (ap (λ (z : List LloydRepairEvent). logged z slots) (e.done r (alone k (completed r) q)).0)
-      by (late n vs b a k q) = rw (b, a, k, q)
+  pub slots_are : (slots : List LloydRepairEvent) → cond (is_ok a) (logged events slots) (replicate (length slots) zero_event) ≡ slots_after c slots
+  slots_are slots =
+      rw e.checked
+      (by (λ b o. cond b (logged events slots) (replicate (length slots) zero_event) ≡ leaves (completed tt) o slots (λ r. logged r.events slots) (replicate (length slots) zero_event))
+      (λ r q. ap (λ (z : List LloydRepairEvent). logged z slots) (e.done r (alone (completed r) q)).0) (λ n vs. refl))

@@ -6,7 +6,7 @@ use Rattle.lloyd_update.proofs.RepairsLaw.{ready_at}
 use Rattle.lloyd_update.proofs.next_repair.Goals as goal
 
 pub repair_on-requires : goal.repair_on-requires
-repair_on-requires c = let s = c in ready_at s.args.s s.requires
+repair_on-requires c = let s = c in ready_at s.args.made s.requires
 
 pub returns : goal.returns
 returns c =

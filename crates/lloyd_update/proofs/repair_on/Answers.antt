@@ -1,10 +1,6 @@
 -- `lloyd_update::repair_on` meets its contract: a turn of the repairs says how far the update has come. Assumes nothing.
-use Rattle.std.proofs.Common.{◌≡◌, ◌+◌, ◌*◌, ◌<◌, length, sym, refl, subst, arith}
-use Rattle.lloyd_cells.specs.Repair.{Repaired}
-use Rattle.lloyd_repair.specs.declared.Turn.{Turn}
-use Rattle.lloyd_repair.specs.Running.{Turned}
-use Rattle.lloyd_update.specs.Alone.{Call, terms_of}
-use Rattle.lloyd_update.specs.Progress.{places_of, numbers_of, start_cells, far_of, Under, Matches}
+use Rattle.std.proofs.Common.{◌≡◌, ◌+◌, ◌*◌, ◌<◌, sym, ap, ◌∙◌, Ok, Err, Some, None, arith}
+use Rattle.lloyd_update.specs.Progress.{start_cells, far_of}
 use Rattle.lloyd_update.proofs.RepairsLaw.{ready_small, used_small, turn_ready, to_turn, of_turn, goes_on, all_done, is_refused}
 use Rattle.lloyd_update.proofs.repair_on.Goals as goal
 
@@ -23,48 +19,28 @@ places-requires c =
 pub repair_next-requires : goal.repair_next-requires
 repair_next-requires c = turn_ready c.requires c.places.result c.places.ensures
 
-pub overflow_cast-used : goal.overflow_cast-used
-overflow_cast-used c = omega (arith, used_small c.requires)
+pub overflow_cast-result : goal.overflow_cast-result
+overflow_cast-result c = omega (arith, used_small c.requires)
 
-pub returns-in-Repair : goal.returns-in-Repair
-returns-in-Repair c =
-    let Says : Call → Repaired → Turn → Type 0 =
-    λ call r. Turned (places_of call.size call.dim) (numbers_of call.size call.dim) (terms_of call) call.samples (far_of call) (start_cells call) r c.repair_next.new.work c.repair_next.new.ints in
-    let says : (call : Call) (r : Repaired) → let a = c.args in Matches call a.t a.samples.now a.slots → a.used ≡ length r.events
-    → Under call a.from r a.work.now a.counts.now → Says call r c.repair_next.result =
-    λ call r same used h. let p = c.places in
-    of_turn same p.result p.ensures r c.repair_next.new.work c.repair_next.new.ints c.repair_next.result
-    (c.repair_next.ensures.turned (far_of call) (start_cells call) r (sym used) (to_turn same p.result p.ensures h)) in
-    let n = c in
-    λ call r same used h.
-    goes_on h n.repair_next.new.work n.repair_next.new.ints _ refl refl (subst (Says call r) c.in-Repair.is (says call r same used h))
+pub returns-in-Ok-Some : goal.returns-in-Ok-Some
+returns-in-Ok-Some c = λ call r same used h.
+    let n = c.repair_next in
+    let p = c.places in
+    let is : n.result ≡ Ok (Some c.in-Ok-Some.repair) = c.in-Ok-Some.is ∙ ap Ok c.in-Ok-Some.field-0-is in
+    goes_on h n.new.work n.new.ints c.in-Ok-Some.repair
+    (of_turn same p.result p.ensures r n.new.work n.new.ints (Ok (Some c.in-Ok-Some.repair)) (rw is at (n.ensures.turned (far_of call) (start_cells call) r (sym used) (to_turn same p.result p.ensures h))))
 
-pub returns-in-Done : goal.returns-in-Done
-returns-in-Done c =
-    let Says : Call → Repaired → Turn → Type 0 =
-    λ call r. Turned (places_of call.size call.dim) (numbers_of call.size call.dim) (terms_of call) call.samples (far_of call) (start_cells call) r c.repair_next.new.work c.repair_next.new.ints in
-    let says : (call : Call) (r : Repaired) → let a = c.args in Matches call a.t a.samples.now a.slots → a.used ≡ length r.events
-    → Under call a.from r a.work.now a.counts.now → Says call r c.repair_next.result =
-    λ call r same used h. let p = c.places in
-    of_turn same p.result p.ensures r c.repair_next.new.work c.repair_next.new.ints c.repair_next.result
-    (c.repair_next.ensures.turned (far_of call) (start_cells call) r (sym used) (to_turn same p.result p.ensures h)) in
-    let n = c in
-    let s = c.stop.ensures in
-    λ call r same used h.
-    all_done h n.repair_next.new.work n.repair_next.new.ints c.stop.result n.args.used s.0 s.1 s.2 used
-    (subst (Says call r) c.in-Done.is (says call r same used h))
+pub returns-in-Ok-None : goal.returns-in-Ok-None
+returns-in-Ok-None c = λ call r same used h.
+    let n = c.repair_next in
+    let p = c.places in
+    let is : n.result ≡ Ok None = c.in-Ok-None.is ∙ ap Ok c.in-Ok-None.field-0-is in
+    all_done h n.new.work n.new.ints c.args.used used
+    (of_turn same p.result p.ensures r n.new.work n.new.ints (Ok None) (rw is at (n.ensures.turned (far_of call) (start_cells call) r (sym used) (to_turn same p.result p.ensures h))))
 
-pub returns-in-Refused : goal.returns-in-Refused
-returns-in-Refused c =
-    let Says : Call → Repaired → Turn → Type 0 =
-    λ call r. Turned (places_of call.size call.dim) (numbers_of call.size call.dim) (terms_of call) call.samples (far_of call) (start_cells call) r c.repair_next.new.work c.repair_next.new.ints in
-    let says : (call : Call) (r : Repaired) → let a = c.args in Matches call a.t a.samples.now a.slots → a.used ≡ length r.events
-    → Under call a.from r a.work.now a.counts.now → Says call r c.repair_next.result =
-    λ call r same used h. let p = c.places in
-    of_turn same p.result p.ensures r c.repair_next.new.work c.repair_next.new.ints c.repair_next.result
-    (c.repair_next.ensures.turned (far_of call) (start_cells call) r (sym used) (to_turn same p.result p.ensures h)) in
-    let n = c in
-    let s = c.stop-in-Refused.ensures in
-    λ call r same used h.
-    is_refused h n.repair_next.new.work n.repair_next.new.ints c.stop-in-Refused.result _ s.0 s.1 s.2
-    (subst (Says call r) c.in-Refused.is (says call r same used h))
+pub returns-in-Err : goal.returns-in-Err
+returns-in-Err c = λ call r same used h.
+    let n = c.repair_next in
+    let p = c.places in
+    is_refused h n.new.work n.new.ints c.in-Err.refusal
+    (of_turn same p.result p.ensures r n.new.work n.new.ints (Err c.in-Err.refusal) (rw c.in-Err.is at (n.ensures.turned (far_of call) (start_cells call) r (sym used) (to_turn same p.result p.ensures h))))
