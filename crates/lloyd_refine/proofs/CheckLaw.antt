@@ -1,5 +1,6 @@
 -- What a refinement that passes its checks has shown. Assumes nothing.
-use mathlib.Core.Path.{◌≡◌, refl, sym, ap, ◌∙◌}
+use Rattle.std.specs.Prelude.{Option, None, Some}
+use mathlib.Core.Path.{◌≡◌, refl}
 use Prim.Native.Nat.{ℕ, ◌+◌, ◌-◌, ◌*◌, ◌≤◌}
 use mathlib.Core.Bool.{not}
 use mathlib.Core.List.{List, [], ◌∷◌}
@@ -7,12 +8,9 @@ use lib.Dec.{eqb, leb}
 use lib.ListN.{length}
 use lib.Ieee.{Float}
 use borrow.Author.Tests.{not-false, eqb-true, leb-true}
-use Rattle.error.specs.declared.Refusal.{Refusal}
-use Rattle.error.specs.Numbers.{Outcome, completed, whole, also, refusal}
+use Rattle.error.specs.Numbers.{Outcome, completed, whole, also}
 use Rattle.error.proofs.Outcomes.{passed}
-use Rattle.error.proofs.Refusals.{also_first, also_next, also_refused, also_then}
-use Rattle.slices.specs.declared.First.{First}
-use Rattle.slices.specs.declared.First.TheVariants.{Nowhere, At}
+use Rattle.error.proofs.Refusals.{also_first, also_next}
 use Rattle.slices.specs.Limit.{first_outside, bounded}
 use Rattle.profile.specs.Valid.{Valid}
 use Rattle.profile.specs.Checks.{validity}
@@ -29,9 +27,9 @@ pub record Passed (j : Job) : Type 0 where
   pub floats : j.float_work ≡ 3 * (size_of j * dim_of j) + 2 * size_of j
   pub integers : j.integer_work ≡ 2 * size_of j
   pub slots_upto : j.slots ≤ 1048576
-  pub initial-within : first_outside refine_limit j.initial ≡ Nowhere
-  pub samples-within : first_outside refine_limit j.samples ≡ Nowhere
-  pub matrices_within : first_outside refine_limit j.matrices ≡ Nowhere
+  pub initial-within : first_outside refine_limit j.initial ≡ None
+  pub samples-within : first_outside refine_limit j.samples ≡ None
+  pub matrices_within : first_outside refine_limit j.matrices ≡ None
 
 pub checks_passed : (j : Job) → refine_checks j ≡ completed tt → Passed j
 unfolding refine_checks length_checks value_checks
@@ -65,49 +63,15 @@ checks_passed j e =
       matrices_within = y.0;
     }
 
--- ---- the checks, one after another
+-- ---- the checks, one after another: the values of each slice are one check
 -- the values of one slice
 abbrev pub values_of : ℕ → List Float → Outcome Unit
 values_of slice xs = bounded slice (first_outside refine_limit xs) (completed tt)
 
-module _ (j : Job) where
-  abbrev profile_check : Outcome Unit
-  profile_check = validity j.profile j.schema j.algorithm j.log2
+also-bounded : (slice : ℕ) (f : Option ℕ) (rest : Outcome Unit) → also (bounded slice f (completed tt)) rest ≡ bounded slice f rest
+also-bounded slice None rest = refl
+also-bounded slice (Some place) rest = refl
 
-  pub invalid : (x : Refusal) → profile_check ≡ refusal x → refine_checks j ≡ refusal x
-  unfolding refine_checks
-  invalid x h = also_refused profile_check _ x h
-
-  also-bounded : (slice : ℕ) (f : First) (rest : Outcome Unit) → also (bounded slice f (completed tt)) rest ≡ bounded slice f rest
-  also-bounded slice Nowhere rest = refl
-  also-bounded slice (At place) rest = refl
-
-  -- a profile that is valid leaves the lengths, and then the values slice by slice
-  module _ (valid : profile_check ≡ completed tt) where
-    lengths_left : also (length_checks (room_of j) j) (also (values_of 1 j.initial) (also (values_of 2 j.samples) (values_of 3 j.matrices))) ≡ refine_checks j
-    unfolding refine_checks value_checks
-    lengths_left =
-        let f = first_outside refine_limit j.initial in
-        let g = first_outside refine_limit j.samples in
-        ap (also (length_checks (room_of j) j)) (also-bounded 1 f _ ∙ ap (bounded 1 f) (also-bounded 2 g _))
-        ∙ sym (also_then profile_check _ valid)
-
-    pub wrong_length : (x : Refusal) → length_checks (room_of j) j ≡ refusal x → refine_checks j ≡ refusal x
-    wrong_length x h = sym lengths_left ∙ also_refused (length_checks (room_of j) j) _ x h
-
-    module _ (sized : length_checks (room_of j) j ≡ completed tt) where
-      values_left : also (values_of 1 j.initial) (also (values_of 2 j.samples) (values_of 3 j.matrices)) ≡ refine_checks j
-      values_left = sym (also_then (length_checks (room_of j) j) _ sized) ∙ lengths_left
-
-      pub wrong_initial : (x : Refusal) → values_of 1 j.initial ≡ refusal x → refine_checks j ≡ refusal x
-      wrong_initial x h = sym values_left ∙ also_refused (values_of 1 j.initial) _ x h
-
-      module _ (first : values_of 1 j.initial ≡ completed tt) where
-        samples_left : also (values_of 2 j.samples) (values_of 3 j.matrices) ≡ refine_checks j
-        samples_left = sym (also_then (values_of 1 j.initial) _ first) ∙ values_left
-
-        pub wrong_samples : (x : Refusal) → values_of 2 j.samples ≡ refusal x → refine_checks j ≡ refusal x
-        wrong_samples x h = sym samples_left ∙ also_refused (values_of 2 j.samples) _ x h
-
-        pub matrices_left : values_of 2 j.samples ≡ completed tt → values_of 3 j.matrices ≡ refine_checks j
-        matrices_left second = sym (also_then (values_of 2 j.samples) _ second) ∙ samples_left
+pub one_by_one : (j : Job) → refine_checks j ≡ also (validity j.profile j.schema j.algorithm j.log2) (also (length_checks (room_of j) j) (also (values_of 1 j.initial) (also (values_of 2 j.samples) (values_of 3 j.matrices))))
+unfolding refine_checks value_checks
+one_by_one j = rw (also-bounded 1 (first_outside refine_limit j.initial), also-bounded 2 (first_outside refine_limit j.samples))

@@ -1,13 +1,14 @@
 -- What a turn of the repairs says of a refinement that stands in a round. Assumes nothing.
+use Rattle.std.specs.Prelude.{Option, None, Some, Result, Ok, Err}
 use mathlib.Core.Path.{◌≡◌, refl, sym, ap, ◌∙◌, subst}
-use Prim.Native.Nat.{ℕ, ◌+◌, ◌-◌, ◌*◌, ◌≤◌, ◌<◌}
+use Prim.Native.Nat.{ℕ, ◌+◌, ◌*◌, ◌≤◌, ◌<◌}
 use native.Mathlib.Omega.{arith}
 use mathlib.Core.Bool.{true, false, true≢false}
 use mathlib.Core.List.{List, [], ◌∷◌, ◌++◌, append_assoc}
 use lib.ListN.{length, length-append}
 use lib.Ieee.{Float}
 use Rattle.error.specs.declared.Refusal.{Refusal}
-use Rattle.error.specs.Numbers.{Outcome, completed, refusal, and_then}
+use Rattle.error.specs.Numbers.{Outcome, completed, refusal, and_then, outcome}
 use Rattle.error.proofs.Refusals.{by_refusal}
 use Rattle.profile.specs.declared.FibQuantProfile.{FibQuantProfile}
 use Rattle.lloyd_events.specs.declared.LloydRepairEvent.{LloydRepairEvent}
@@ -15,18 +16,16 @@ use Rattle.lloyd_cells.specs.declared.Places.{Places}
 use Rattle.lloyd_cells.specs.Repair.{Repaired}
 use Rattle.lloyd_cells.specs.Work.{Kept}
 use Rattle.lloyd_cells.proofs.TallyLaw.{events_upto}
-use Rattle.lloyd_repair.specs.declared.Turn.{Turn}
-use Rattle.lloyd_repair.specs.declared.Turn.TheVariants as turns
-use Rattle.lloyd_repair.specs.Running.{Running, ReadyRepairs, Turned}
+use Rattle.lloyd_repair.specs.declared.Repair.{Repair}
+use Rattle.lloyd_repair.specs.Running.{Running, Turned}
 use Rattle.lloyd_update.proofs.RepairsLaw.{events_within, not_completed}
 use Rattle.lloyd_round.specs.Round.{places_of, numbers_of, Holding}
 use Rattle.lloyd_refine.specs.declared.LloydReport.{LloydReport}
-use Rattle.lloyd_refine.specs.declared.Refinement.TheVariants.{Refused}
 use Rattle.lloyd_refine.specs.declared.RefineState.{RefineState}
 use Rattle.lloyd_refine.specs.declared.RefineStep.{RefineStep}
 use Rattle.lloyd_refine.specs.declared.Pause.{Pause}
 use Rattle.lloyd_refine.specs.Refine.{Job, size_of, dim_of, refine_checks, round_terms, Trained, trained_from, Best, refinement}
-use Rattle.lloyd_refine.specs.Report.{refinement_of, report_of}
+use Rattle.lloyd_refine.specs.Report.{report_of}
 use Rattle.lloyd_refine.specs.Standing.{job_of, round_means, round_far, InRound, RefineProgress, Matches}
 use Rattle.lloyd_refine.specs.Pauses.{at_cell, Paused, Pausing, ReadyIn}
 use Rattle.lloyd_refine.proofs.CheckLaw.{checks_passed}
@@ -52,12 +51,12 @@ reported j o = and_then o (λ b. completed (report_of j b))
 pub report_refused : (j : Job) (x : Refusal) → refusal x ≡ reported j (refusal x)
 report_refused j x = by_refusal (λ (q : Outcome Best) (p : Outcome LloydReport). p ≡ reported j q) (λ n vs. refl) x
 
-pub not_refined : (j : Job) (events : List LloydRepairEvent) (work : List Float) (ints : List ℕ) (s : RefineStep) (x : Refusal) → s.going ≡ false → s.begun ≡ true → s.answer ≡ Refused x
+pub not_refined : (j : Job) (events : List LloydRepairEvent) (work : List Float) (ints : List ℕ) (s : RefineStep) (x : Refusal) → s.going ≡ false → s.begun ≡ true → s.answer ≡ Err x
     → refine_checks j ≡ completed tt → refinement j ≡ refusal x → RefineProgress j events work ints s
 not_refined j events work ints s x g b a k e = (
   λ z. absurd (true≢false (sym z ∙ g)),
   λ z. record {
-    answer = ap refinement_of a ∙ report_refused j x ∙ sym (ap (reported j) e);
+    answer = ap outcome a ∙ report_refused j x ∙ sym (ap (reported j) e);
     done = λ r q. absurd (not_completed x r (sym e ∙ q));
     begun = λ q. k;
     early = λ q u v. true≢false (sym b ∙ q);
@@ -85,14 +84,11 @@ module _ {j : Job} {b : Best} {t : Trained} {u : Repaired} {s : RefineState} {wo
     pub to_turn : Running p (numbers_of (size_of j)) (round_terms j s.restart s.iteration s.before) j.samples (round_far j t.codebook) (round_means j t.codebook) s.next u work ints
     to_turn = rw (is, h.earlier) h.running
 
-    pub of_turn : (after : List Float) (left : List ℕ) (o : Turn) → Turned p (numbers_of (size_of j)) (round_terms j s.restart s.iteration s.before) j.samples (round_far j t.codebook) (round_means j t.codebook) u after left o
+    pub of_turn : (after : List Float) (left : List ℕ) (o : Result (Option Repair) Refusal) → Turned p (numbers_of (size_of j)) (round_terms j s.restart s.iteration s.before) j.samples (round_far j t.codebook) (round_means j t.codebook) u after left o
         → Turned (places_of (size_of j) (dim_of j)) (numbers_of (size_of j)) (round_terms j s.restart s.iteration (length t.events)) j.samples (round_far j t.codebook) (round_means j t.codebook) u after left o
     of_turn after left o q =
         subst (λ (z : ℕ). Turned (places_of (size_of j) (dim_of j)) (numbers_of (size_of j)) (round_terms j s.restart s.iteration z) j.samples (round_far j t.codebook) (round_means j t.codebook) u after left o) h.earlier
         (subst (λ (z : Places). Turned z (numbers_of (size_of j)) (round_terms j s.restart s.iteration s.before) j.samples (round_far j t.codebook) (round_means j t.codebook) u after left o) is q)
-
-    turn_ready : ReadyRepairs p (numbers_of (size_of j)) (round_terms j s.restart s.iteration s.before) j.samples s.made s.next work ints
-    turn_ready = record { far = round_far j t.codebook; start = round_means j t.codebook; r = u; events = sym h.made; running = to_turn }
 
   -- ---- where it leaves the refinement
   module _ (after : List Float) (left : List ℕ) (kept : Kept (places_of (size_of j) (dim_of j)) (size_of j) (dim_of j) work after) (same : length left ≡ length ints) where
@@ -121,22 +117,22 @@ module _ {j : Job} {b : Best} {t : Trained} {u : Repaired} {s : RefineState} {wo
       winner = h.winner;
     }
 
-    pub turned : (o : Turn) (p : Pause) → Paused j.profile s o p
+    pub turned : (o : Result (Option Repair) Refusal) (p : Pause) → Paused j.profile s o p
         → Turned (places_of (size_of j) (dim_of j)) (numbers_of (size_of j)) (round_terms j s.restart s.iteration (length t.events)) j.samples (round_far j t.codebook) (round_means j t.codebook) u after left o
         → Pausing j (t.events ++ u.events) after left p
-    turned (turns.Repair e next) p (over, going, begun, event, state, answer) o =
-        let k = length-append u.events (e ∷ []) in
+    turned (Ok (Some w)) p (over, going, begun, event, state, answer) o =
+        let k = length-append u.events (w.event ∷ []) in
         let n = ap length o.event in
         let made : s.made + 1 ≡ length o.after.events = omega (arith, h.made) in
-        let one : u.events ++ (e ∷ []) ≡ u.events ++ (p.step.event ∷ []) = ap (λ (z : LloydRepairEvent). u.events ++ (z ∷ [])) (sym event) in
-        let fit = events_within (round_terms j s.restart s.iteration (length t.events)) (round_far j t.codebook) (round_means j t.codebook) next o.after o.running.came in (
+        let one : u.events ++ (w.event ∷ []) ≡ u.events ++ (p.step.event ∷ []) = ap (λ (z : LloydRepairEvent). u.events ++ (z ∷ [])) (sym event) in
+        let fit = events_within (round_terms j s.restart s.iteration (length t.events)) (round_far j t.codebook) (round_means j t.codebook) w.next o.after o.running.came in (
           λ z. absurd (true≢false (sym z ∙ over)),
           λ z. (
             λ y. record {
               b = b;
               t = t;
               u = o.after;
-              standing = subst (λ (x : RefineState). InRound j b t o.after x after left) (sym state) (stands_on o.after next (s.made + 1) made o.running);
+              standing = subst (λ (x : RefineState). InRound j b t o.after x after left) (sym state) (stands_on o.after w.next (s.made + 1) made o.running);
               last = ap (λ (x : List LloydRepairEvent). t.events ++ x) (o.event ∙ one) ∙ sym (append_assoc t.events u.events (p.step.event ∷ []));
               room = omega (arith, length-append t.events u.events);
               begun = begun;
@@ -144,7 +140,7 @@ module _ {j : Job} {b : Best} {t : Trained} {u : Repaired} {s : RefineState} {wo
             λ y. absurd (true≢false (sym going ∙ y)),
           ),
         )
-    turned turns.Done p (over, going, begun, event, state, answer) o = (
+    turned (Ok None) p (over, going, begun, event, state, answer) o = (
       λ z. record {
         b = b;
         t = t;
@@ -155,7 +151,7 @@ module _ {j : Job} {b : Best} {t : Trained} {u : Repaired} {s : RefineState} {wo
       },
       λ z. absurd (true≢false (sym over ∙ z)),
     )
-    turned (turns.Refused x) p (over, going, begun, event, state, answer) o = (
+    turned (Err x) p (over, going, begun, event, state, answer) o = (
       λ z. absurd (true≢false (sym z ∙ over)),
       λ z. not_refined j (t.events ++ u.events) after left p.step x going begun answer h.checked
           (refused_by j x s.restart s.iteration b t h.checked h.restart_below h.round_below h.bests h.rounds (h.repairs ∙ o)),
@@ -168,10 +164,3 @@ module _ {p : FibQuantProfile} {xs : List Float} {most : ℕ} {work : List Float
 
   pub small_of : 3 * (p.codebook_size * p.block_dim) + p.codebook_size < 0x1_0000_0000_0000
   small_of = subst (λ (z : FibQuantProfile). 3 * (z.codebook_size * z.block_dim) + z.codebook_size < 0x1_0000_0000_0000) q.matches.profile (small_places q.standing)
-
-  pub ready_turn : (a : Places) → a ≡ places_of p.codebook_size p.block_dim
-      → ReadyRepairs a (numbers_of p.codebook_size) (record { dim = p.block_dim; cells = p.codebook_size; restart = s.restart; iteration = s.iteration; free = most - s.before; shown = most }) xs s.made s.next work ints
-  ready_turn a e =
-      by_job q.job (λ (z : Job). InRound z q.b q.t q.u s work ints
-      → ReadyRepairs a (numbers_of p.codebook_size) (record { dim = p.block_dim; cells = p.codebook_size; restart = s.restart; iteration = s.iteration; free = most - s.before; shown = most }) xs s.made s.next work ints) q.matches
-      (λ h. turn_ready h a e) q.standing

@@ -1,24 +1,16 @@
 -- How the steps of a refinement go from round to round and from restart to restart. Definitions only.
-use Rattle.std.specs.Prelude.{◌≡◌, ℕ, ◌+◌, Bool, true, false, List, ◌++◌, Float}
+use Rattle.std.specs.Prelude.{◌≡◌, ℕ, ◌+◌, true, false, List, ◌++◌, Float, Some, Option, None, Result, Ok, Err}
 use Rattle.profile.specs.declared.FibQuantProfile.{FibQuantProfile}
 use Rattle.lloyd_events.specs.declared.LloydRepairEvent.{LloydRepairEvent}
 use Rattle.lloyd_events.specs.Events.{zero_event}
 use Rattle.lloyd_cells.specs.Repair.{Repaired}
-use Rattle.lloyd_repair.specs.declared.Turn.{Turn}
-use Rattle.lloyd_repair.specs.declared.Turn.TheVariants as turns
-use Rattle.lloyd_refine.specs.declared.Winner.TheVariants.{Restart}
+use Rattle.error.specs.declared.Refusal.{Refusal}
+use Rattle.lloyd_repair.specs.declared.Repair.{Repair}
 use Rattle.lloyd_refine.specs.declared.LloydReport.{LloydReport}
-use Rattle.lloyd_refine.specs.declared.Refinement.{Refinement}
-use Rattle.lloyd_refine.specs.declared.Refinement.TheVariants.{Report, Refused}
 use Rattle.lloyd_refine.specs.declared.RefineState.{RefineState}
 use Rattle.lloyd_refine.specs.declared.Pause.{Pause}
 use Rattle.lloyd_refine.specs.Refine.{Job, size_of, Trained, Best}
 use Rattle.lloyd_refine.specs.Standing.{InRound, RefineProgress, Matches}
-
--- whether an answer is a report
-abbrev pub is_report : Refinement → Bool
-is_report (Report r) = true
-is_report (Refused r) = false
 
 -- the report of what a refinement has found so far
 abbrev pub report_in : FibQuantProfile → RefineState → LloydReport
@@ -36,41 +28,23 @@ report_in p s = record {
 
 -- the cell whose turn is next, and how many repairs of the round were made
 abbrev pub at_cell : ℕ → ℕ → RefineState → RefineState
-at_cell next made s = record {
-  restart = s.restart;
-  iteration = s.iteration;
-  next = next;
-  before = s.before;
-  made = made;
-  init_mse = s.init_mse;
-  best_mse = s.best_mse;
-  best_restart = s.best_restart;
-}
+at_cell next made s = record s { next = next; made = made }
 
 -- what a turn of the repairs makes of a state, member by member
-abbrev pub Paused : FibQuantProfile → RefineState → Turn → Pause → Type 0
-Paused f s (turns.Repair e next) p =
-    (p.over ≡ false) × (p.step.going ≡ true) × (p.step.begun ≡ true) × (p.step.event ≡ e)
-    × (p.step.state ≡ at_cell next (s.made + 1) s) × (p.step.answer ≡ Report (report_in f s))
-Paused f s turns.Done p =
+abbrev pub Paused : FibQuantProfile → RefineState → Result (Option Repair) Refusal → Pause → Type 0
+Paused f s (Ok (Some x)) p =
+    (p.over ≡ false) × (p.step.going ≡ true) × (p.step.begun ≡ true) × (p.step.event ≡ x.event)
+    × (p.step.state ≡ at_cell x.next (s.made + 1) s) × (p.step.answer ≡ Ok (report_in f s))
+Paused f s (Ok None) p =
     (p.over ≡ true) × (p.step.going ≡ false) × (p.step.begun ≡ true) × (p.step.event ≡ zero_event)
-    × (p.step.state ≡ at_cell f.codebook_size s.made s) × (p.step.answer ≡ Report (report_in f s))
-Paused f s (turns.Refused x) p =
+    × (p.step.state ≡ at_cell f.codebook_size s.made s) × (p.step.answer ≡ Ok (report_in f s))
+Paused f s (Err x) p =
     (p.over ≡ false) × (p.step.going ≡ false) × (p.step.begun ≡ true) × (p.step.event ≡ zero_event)
-    × (p.step.state ≡ s) × (p.step.answer ≡ Refused x)
+    × (p.step.state ≡ s) × (p.step.answer ≡ Err x)
 
 -- this restart's end, of error e, is the best so far
 abbrev pub with_best : Float → RefineState → RefineState
-with_best e s = record {
-  restart = s.restart;
-  iteration = s.iteration;
-  next = s.next;
-  before = s.before;
-  made = s.made;
-  init_mse = s.init_mse;
-  best_mse = e;
-  best_restart = Restart s.restart;
-}
+with_best e s = record s { best_mse = e; best_restart = Some s.restart }
 
 -- every cell of a round has had its turn, and `events` are all events so far
 pub record Over (j : Job) (events : List LloydRepairEvent) (work : List Float) (ints : List ℕ)

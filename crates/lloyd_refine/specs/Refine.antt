@@ -1,6 +1,6 @@
 -- Refinement: its checks in document 01's order, the rounds of a restart,
 -- the restarts, and the codebook of the least error. Definitions only.
-use Rattle.std.specs.Prelude.{ℕ, zero, suc, ◌+◌, ◌-◌, ◌*◌, ◌/◌, ◌%◌, false, not, cond, List, [], ◌∷◌, ◌++◌, eqb, leb, pos, length, get_or, replicate, take, drop, Float}
+use Rattle.std.specs.Prelude.{ℕ, zero, suc, ◌+◌, ◌-◌, ◌*◌, ◌/◌, ◌%◌, false, not, cond, List, [], ◌∷◌, ◌++◌, eqb, leb, pos, length, get_or, replicate, take, drop, Float, Option, None, Some}
 use Rattle.std.specs.Float.{fin, nan, binary32}
 use Rattle.std.specs.Float.Ieee.{lt}
 use Rattle.error.specs.Names.{codewords_slice, event_slice, float_work_slice, initial_slice, integer_work_slice, matrix_slice, samples_slice}
@@ -18,8 +18,6 @@ use Rattle.lloyd_events.specs.Events.{zero_event}
 use Rattle.lloyd_cells.specs.Repair.{Terms, Repaired}
 use Rattle.lloyd_cells.specs.Update.{updated}
 use Rattle.lloyd_round.specs.Round.{cell_of}
-use Rattle.lloyd_refine.specs.declared.Winner.{Winner}
-use Rattle.lloyd_refine.specs.declared.Winner.TheVariants.{StartKept, Restart}
 
 -- ---- what a refinement is given, but the contents of the buffers that it writes; of these the lengths
 pub record Job : Type 0 where
@@ -157,16 +155,16 @@ error_of j codebook = mean_error (dim_of j) (size_of j) (row_of (dim_of j) codeb
 pub record Best : Type 0 where
   pub codebook : List Float
   pub error : Float
-  pub winner : Winner
+  pub winner : Option ℕ
   pub events : List LloydRepairEvent
 
 abbrev pub start_best : Job → Best
-start_best j = record { codebook = j.initial; error = error_of j j.initial; winner = StartKept; events = [] }
+start_best j = record { codebook = j.initial; error = error_of j j.initial; winner = None; events = [] }
 
 -- the end t of restart r beside the best before it: a strictly smaller error wins
 abbrev pub after_restart : Job → ℕ → Best → Trained → Best
 after_restart j r b t = cond (lt (error_of j t.codebook) b.error)
-    (record { codebook = t.codebook; error = error_of j t.codebook; winner = Restart r; events = t.events })
+    (record { codebook = t.codebook; error = error_of j t.codebook; winner = Some r; events = t.events })
     (record { codebook = b.codebook; error = b.error; winner = b.winner; events = t.events })
 
 -- restart r, after earlier ones that came to b

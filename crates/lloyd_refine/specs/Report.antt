@@ -1,21 +1,12 @@
 -- The report of a refinement, and the test of a report against its profile. Definitions only.
-use Rattle.std.specs.Prelude.{ℕ, Bool, true, not, ◌&&◌, cond, List, [], ◌∷◌, eqb, ltb, length}
+use Rattle.std.specs.Prelude.{ℕ, Bool, true, not, ◌&&◌, cond, List, [], ◌∷◌, eqb, ltb, length, Option, None, Some}
 use Rattle.std.specs.Float.Ieee.Scale.{finite}
 use Rattle.error.specs.Names.{mse_site, repair_count_site, settings_site}
-use Rattle.error.specs.Numbers.{Outcome, completed, refused, refusal, whole}
+use Rattle.error.specs.Numbers.{Outcome, completed, refused, whole}
 use Rattle.profile.specs.declared.FibQuantProfile.{FibQuantProfile}
 use Rattle.profile.specs.Fields.{ascii, same_bytes}
-use Rattle.lloyd_refine.specs.declared.Winner.{Winner}
-use Rattle.lloyd_refine.specs.declared.Winner.TheVariants.{StartKept, Restart}
 use Rattle.lloyd_refine.specs.declared.LloydReport.{LloydReport}
-use Rattle.lloyd_refine.specs.declared.Refinement.{Refinement}
-use Rattle.lloyd_refine.specs.declared.Refinement.TheVariants.{Report, Refused}
 use Rattle.lloyd_refine.specs.Refine.{Job, Best, error_of}
-
--- the answer of a refinement
-abbrev pub refinement_of : Refinement → Outcome LloydReport
-refinement_of (Report r) = completed r
-refinement_of (Refused r) = refusal r
 
 -- the report of a refinement that came to b
 abbrev pub report_of : Job → Best → LloydReport
@@ -37,9 +28,9 @@ unfolding ascii
 report_schema = ascii "lloyd_report_v1"
 
 -- the start was kept, or the restart that won is one of R
-abbrev pub winner_below : ℕ → Winner → Bool
-winner_below restarts StartKept = true
-winner_below restarts (Restart r) = ltb r restarts
+abbrev pub winner_below : ℕ → Option ℕ → Bool
+winner_below restarts None = true
+winner_below restarts (Some r) = ltb r restarts
 
 -- the report has the profile's settings, and a winner that they allow
 abbrev pub same_settings : LloydReport → FibQuantProfile → Bool

@@ -1,6 +1,6 @@
 -- Where a refinement stands between two steps, and what its work then holds. Definitions only.
 use Rattle.std.specs.Prelude.{◌≡◌, ℕ, ◌*◌, ◌<◌, true, false, List, [], ◌∷◌, ◌++◌, length, Float}
-use Rattle.error.specs.Numbers.{completed, and_then}
+use Rattle.error.specs.Numbers.{completed, and_then, outcome}
 use Rattle.profile.specs.declared.FibQuantProfile.{FibQuantProfile}
 use Rattle.lloyd_events.specs.declared.LloydRepairEvent.{LloydRepairEvent}
 use Rattle.lloyd_cells.specs.Repair.{Cells, Repaired, repair_to}
@@ -9,7 +9,7 @@ use Rattle.lloyd_round.specs.Round.{means_of, far_of, places_of, numbers_of, Hol
 use Rattle.lloyd_refine.specs.declared.RefineState.{RefineState}
 use Rattle.lloyd_refine.specs.declared.RefineStep.{RefineStep}
 use Rattle.lloyd_refine.specs.Refine.{Job, size_of, dim_of, count_of, restarts_of, iterations_of, refine_checks, round_terms, round_of, Trained, rounds_to, trained_from, error_of, Best, restarts_to, refinement}
-use Rattle.lloyd_refine.specs.Report.{refinement_of, report_of}
+use Rattle.lloyd_refine.specs.Report.{report_of}
 
 -- the job that the arguments make
 abbrev pub job_of : FibQuantProfile → List ℕ → List ℕ → Float → List Float → List Float → List Float → ℕ → ℕ → ℕ → ℕ → Job
@@ -72,7 +72,7 @@ pub record Going (j : Job) (events : List LloydRepairEvent) (work : List Float) 
 
 -- the refinement has come to its end, and `events` are its events
 pub record Ended (j : Job) (events : List LloydRepairEvent) (work : List Float) (s : RefineStep) : Type 0 where
-  pub answer : refinement_of s.answer ≡ and_then (refinement j) (λ b. completed (report_of j b))
+  pub answer : outcome s.answer ≡ and_then (refinement j) (λ b. completed (report_of j b))
   pub done : (b : Best) → refinement j ≡ completed b → (events ≡ b.events)
       × Holding (size_of j) (dim_of j) (size_of j * dim_of j) b.codebook work
   pub begun : s.begun ≡ true → refine_checks j ≡ completed tt

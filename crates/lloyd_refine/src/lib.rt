@@ -4,10 +4,11 @@
 // report are public only for the crates above.
 #![tactic(auto)]
 
-ghost use Rattle.std.specs.Prelude.{◌≡◌, true, false, not, ◌&&◌, cond, [], ◌++◌, ◌+◌, ◌*◌, ◌/◌, ◌≤◌, ◌<◌, length, get_or, take, replicate};
+ghost use Rattle.std.specs.Prelude.{◌≡◌, true, false, not, is_ok, ◌&&◌, cond, [], ◌++◌, ◌+◌, ◌*◌, ◌/◌, ◌≤◌, ◌<◌, length, get_or, take, replicate};
 ghost use Rattle.std.specs.Float.{nan, binary32};
 ghost use Rattle.std.specs.Float.Ieee.{lt};
-ghost use Rattle.error.specs.Numbers.{completed, checked};
+ghost use Rattle.error.specs.Names.{slice_number};
+ghost use Rattle.error.specs.Numbers.{completed, outcome};
 ghost use Rattle.ieee.specs.Sum.{plus_zero};
 ghost use Rattle.slices.specs.Limit.{first_outside, bounded};
 ghost use Rattle.slices.specs.Lists.{tabulate, patched};
@@ -21,20 +22,12 @@ ghost use Rattle.lloyd_cells.specs.Repair.{Repaired};
 ghost use Rattle.lloyd_refine.specs.Refine.{Job, Best, Trained, refine_limit, room_of, length_checks, refine_checks};
 ghost use Rattle.lloyd_refine.specs.Report.{winner_below, same_settings, report_test};
 ghost use Rattle.lloyd_refine.specs.Standing.{job_of, InRound, Matches};
-ghost use Rattle.lloyd_refine.specs.Pauses.{is_report, report_in, with_best, Paused, Pausing, ReadyIn};
+ghost use Rattle.lloyd_refine.specs.Pauses.{report_in, with_best, Paused, Pausing, ReadyIn};
 
-use error::{Checked, Refusal, names};
+use error::{Refusal, ReportSite, Slice};
 use lloyd_events::LloydRepairEvent;
-use lloyd_repair::{Numbers, RepairTerms, Turn};
+use lloyd_repair::{Numbers, Repair, RepairTerms};
 use profile::FibQuantProfile;
-use slices::First;
-
-// Which codebook a refinement returns: the start, or the end of a restart.
-#[derive(Clone, Copy)]
-pub enum Winner {
-    StartKept,
-    Restart(u32),
-}
 
 // What a refinement found. It counts the repairs and the events that were written.
 #[derive(Clone, Copy)]
@@ -44,17 +37,11 @@ pub struct LloydReport {
     pub training_samples: u32,
     pub init_mse: f64,
     pub best_mse: f64,
-    pub best_restart: Winner,
+    // The restart that won, or none where the start is kept.
+    pub best_restart: Option<u32>,
     pub empty_cells_repaired: u32,
     pub events_used: u32,
     pub seed: u64,
-}
-
-// The answer of a refinement.
-#[derive(Clone, Copy)]
-pub enum Refinement {
-    Report(LloydReport),
-    Refused(Refusal),
 }
 
 // Which round a refinement stands in, and what it has found so far. With the work it can be stopped and taken up again.
@@ -69,7 +56,7 @@ pub struct RefineState {
     pub made: usize,
     pub init_mse: f64,
     pub best_mse: f64,
-    pub best_restart: Winner,
+    pub best_restart: Option<u32>,
 }
 
 // Where a refinement stands: a repair was made and its event is to be written, or it has stopped with its answer.
@@ -82,7 +69,7 @@ pub struct RefineStep {
     pub begun: bool,
     pub event: LloydRepairEvent,
     pub state: RefineState,
-    pub answer: Refinement,
+    pub answer: Result<LloydReport, Refusal>,
 }
 
 // A round is over, every cell having had its turn, and the step shows where; or the step itself.
@@ -96,6 +83,7 @@ pub struct Pause {
 const REFINE_LIMIT: f64 = 1048576.0;
 
 // The lengths of the slices, for a profile that is valid. The strings beside it do not matter to them.
+#[tactic(auto, unfolding(crate::specs::Refine::length_checks))]
 fn check_lengths(
     initial: &[f64],
     samples: &[f64],
@@ -105,47 +93,47 @@ fn check_lengths(
     floats: usize,
     integers: usize,
     slots: usize,
-) -> Checked
+) -> Result<(), Refusal>
     requires { Valid profile }
     ensures { let j = job_of profile [] [] nan initial.now samples.now
         matrices.now codewords floats integers slots in
-        checked result ≡ length_checks (room_of j) j }
+        outcome result ≡ length_checks (room_of j) j }
 {
     let n = profile.codebook_size as usize;
     let k = profile.block_dim as usize;
     let count = profile.training_samples as usize;
     let later = profile.lloyd_restarts as usize - 1;
     if initial.len() != n * k {
-        return Checked::Refused(Refusal::SliceLength(names::INITIAL_SLICE));
+        return Err(Refusal::SliceLength(Slice::Initial));
     }
     if samples.len() != count * k {
-        return Checked::Refused(Refusal::SliceLength(names::SAMPLES_SLICE));
+        return Err(Refusal::SliceLength(Slice::Samples));
     }
     if matrices.len() != later * (k * k) {
-        return Checked::Refused(Refusal::SliceLength(names::MATRIX_SLICE));
+        return Err(Refusal::SliceLength(Slice::Matrix));
     }
     if codewords != n * k {
-        return Checked::Refused(Refusal::SliceLength(names::CODEWORDS_SLICE));
+        return Err(Refusal::SliceLength(Slice::Codewords));
     }
     if floats != 3 * (n * k) + 2 * n {
-        return Checked::Refused(Refusal::SliceLength(names::FLOAT_WORK_SLICE));
+        return Err(Refusal::SliceLength(Slice::FloatWork));
     }
     if integers != 2 * n {
-        return Checked::Refused(Refusal::SliceLength(names::INTEGER_WORK_SLICE));
+        return Err(Refusal::SliceLength(Slice::IntegerWork));
     }
     if lloyd_events::MAX_EVENT_SLOTS < slots {
-        return Checked::Refused(Refusal::SliceLength(names::EVENT_SLICE));
+        return Err(Refusal::SliceLength(Slice::Events));
     }
-    Checked::Accepted
+    Ok(())
 }
 
 // 18 at the first value of a slice that is not finite or too large.
-fn check_values(slice: u32, values: &[f64]) -> Checked
-    ensures { checked result ≡ bounded slice (first_outside refine_limit values.now) (completed tt) }
+fn check_values(slice: Slice, values: &[f64]) -> Result<(), Refusal>
+    ensures { outcome result ≡ bounded (slice_number slice) (first_outside refine_limit values.now) (completed tt) }
 {
     match slices::first_outside(values, REFINE_LIMIT) {
-        First::Nowhere => Checked::Accepted,
-        First::At(place) => Checked::Refused(Refusal::OutOfBounds {
+        None => Ok(()),
+        Some(place) => Err(Refusal::OutOfBounds {
             slice,
             place: place as u64,
         }),
@@ -165,30 +153,18 @@ pub fn check_refine(
     floats: usize,
     integers: usize,
     slots: usize,
-) -> Checked
-    ensures { checked result
+) -> Result<(), Refusal>
+    ensures { outcome result
         ≡ refine_checks (job_of profile schema.now rotation_algorithm.now log2
         initial.now samples.now matrices.now codewords floats integers slots) }
 {
-    let valid = profile.validate(schema, rotation_algorithm, log2);
-    if let Checked::Refused(refusal) = valid {
-        return Checked::Refused(refusal);
-    }
-    let sized = check_lengths(
+    profile.validate(schema, rotation_algorithm, log2)?;
+    check_lengths(
         initial, samples, matrices, profile, codewords, floats, integers, slots,
-    );
-    if let Checked::Refused(refusal) = sized {
-        return Checked::Refused(refusal);
-    }
-    let first = check_values(names::INITIAL_SLICE, initial);
-    if let Checked::Refused(refusal) = first {
-        return Checked::Refused(refusal);
-    }
-    let second = check_values(names::SAMPLES_SLICE, samples);
-    if let Checked::Refused(refusal) = second {
-        return Checked::Refused(refusal);
-    }
-    check_values(names::MATRIX_SLICE, matrices)
+    )?;
+    check_values(Slice::Initial, initial)?;
+    check_values(Slice::Samples, samples)?;
+    check_values(Slice::Matrix, matrices)
 }
 
 // The report of what has been found so far.
@@ -196,14 +172,13 @@ pub fn report(profile: FibQuantProfile, s: RefineState) -> LloydReport
     requires { s.before ≤ 1048576 }
     ensures { result ≡ report_in profile s }
 {
-    let best_restart = s.best_restart;
     LloydReport {
         restarts: profile.lloyd_restarts,
         iterations: profile.lloyd_iterations,
         training_samples: profile.training_samples,
         init_mse: s.init_mse,
         best_mse: s.best_mse,
-        best_restart,
+        best_restart: s.best_restart,
         empty_cells_repaired: s.before as u32,
         events_used: s.before as u32,
         seed: profile.codebook_seed,
@@ -211,7 +186,7 @@ pub fn report(profile: FibQuantProfile, s: RefineState) -> LloydReport
 }
 
 // Stopped with an answer, before updating began or once it has.
-pub fn stop(begun: bool, s: RefineState, answer: Refinement) -> RefineStep
+pub fn stop(begun: bool, s: RefineState, answer: Result<LloydReport, Refusal>) -> RefineStep
     ensures { (result.going ≡ false) × (result.begun ≡ begun) × (result.state ≡ s) × (result.answer ≡ answer)
         × (result.event ≡ zero_event) }
 {
@@ -225,32 +200,35 @@ pub fn stop(begun: bool, s: RefineState, answer: Refinement) -> RefineStep
 }
 
 // Where a turn of the repairs leaves a refinement.
-fn paused(profile: FibQuantProfile, s: RefineState, turn: Turn) -> Pause
+fn paused(profile: FibQuantProfile, s: RefineState, turn: Result<Option<Repair>, Refusal>) -> Pause
     requires { (s.before ≤ 1048576) × (s.made ≤ 1048576) }
     ensures { Paused profile s turn result }
 {
-    let mut state = s;
     match turn {
-        Turn::Repair(event, next) => {
-            state.next = next;
-            state.made = s.made + 1;
-            let answer = Refinement::Report(report(profile, s));
+        Ok(Some(repair)) => {
             let step = RefineStep {
                 going: true,
                 begun: true,
-                event,
-                state,
-                answer,
+                event: repair.event,
+                state: RefineState {
+                    next: repair.next,
+                    made: s.made + 1,
+                    ..s
+                },
+                answer: Ok(report(profile, s)),
             };
             Pause { over: false, step }
         }
-        Turn::Done => {
-            state.next = profile.codebook_size as usize;
-            let step = stop(true, state, Refinement::Report(report(profile, s)));
+        Ok(None) => {
+            let state = RefineState {
+                next: profile.codebook_size as usize,
+                ..s
+            };
+            let step = stop(true, state, Ok(report(profile, s)));
             Pause { over: true, step }
         }
-        Turn::Refused(r) => {
-            let step = stop(true, s, Refinement::Refused(r));
+        Err(refusal) => {
+            let step = stop(true, s, Err(refusal));
             Pause { over: false, step }
         }
     }
@@ -275,10 +253,7 @@ pub fn repair_on(
 {
     let n = profile.codebook_size as usize;
     let k = profile.block_dim as usize;
-    let numbers = Numbers {
-        start: n,
-        in_floats: false,
-    };
+    let numbers = Numbers::InInts(n);
     let terms = RepairTerms {
         dim: k,
         cells: n,
@@ -305,14 +280,9 @@ fn with_best(error: f64, s: RefineState) -> RefineState
     ensures { result ≡ with_best error s }
 {
     RefineState {
-        restart: s.restart,
-        iteration: s.iteration,
-        next: s.next,
-        before: s.before,
-        made: s.made,
-        init_mse: s.init_mse,
         best_mse: error,
-        best_restart: Winner::Restart(s.restart),
+        best_restart: Some(s.restart),
+        ..s
     }
 }
 
@@ -353,11 +323,11 @@ pub fn finish_refine(
     work: &mut [f64],
     ints: &mut [u32],
     s: RefineStep,
-) -> Refinement
+) -> Result<LloydReport, Refusal>
     requires { s.begun ≡ true → 2 * length codewords.old ≤ length work.old }
     ensures answer { result ≡ s.answer }
     ensures codewords { codewords.new
-        ≡ cond (s.begun && is_report s.answer)
+        ≡ cond (s.begun && is_ok s.answer)
         (tabulate (length codewords.old)
         (λ i. narrow_to binary32 (get_or work.old (length codewords.old + i) nan)))
         codewords.old }
@@ -368,7 +338,7 @@ pub fn finish_refine(
 {
     let answer = s.answer;
     if s.begun {
-        if let Refinement::Report(_) = answer {
+        if answer.is_ok() {
             let best = codewords.len();
             lloyd_restart::narrow_out(&*work, best, codewords);
         }
@@ -380,67 +350,46 @@ pub fn finish_refine(
 
 // Whether a refinement was refused once updating had begun.
 pub fn refused_after_start(s: RefineStep) -> bool
-    ensures { result ≡ (s.begun && not (is_report s.answer)) }
+    ensures { result ≡ (s.begun && not (is_ok s.answer)) }
 {
-    let answer = s.answer;
-    match answer {
-        Refinement::Report(_) => false,
-        Refinement::Refused(_) => s.begun,
-    }
+    s.begun && s.answer.is_err()
 }
 
 // Whether the start was kept, or the restart that won is one of so many.
-fn is_below(winner: Winner, restarts: u32) -> bool
+fn is_below(winner: Option<u32>, restarts: u32) -> bool
     ensures { result ≡ winner_below restarts winner }
 {
-    match winner {
-        Winner::StartKept => true,
-        Winner::Restart(r) => r < restarts,
-    }
+    winner.is_none_or(|r| r < restarts)
 }
 
 // Whether a report has the profile's settings, and a winner that they allow.
 fn same_settings(report: LloydReport, profile: FibQuantProfile) -> bool
     ensures { result ≡ same_settings report profile }
 {
-    if report.restarts != profile.lloyd_restarts {
-        return false;
-    }
-    if report.iterations != profile.lloyd_iterations {
-        return false;
-    }
-    if report.training_samples != profile.training_samples {
-        return false;
-    }
-    if report.seed != profile.codebook_seed {
-        return false;
-    }
-    let winner = report.best_restart;
-    is_below(winner, profile.lloyd_restarts)
+    report.restarts == profile.lloyd_restarts
+        && report.iterations == profile.lloyd_iterations
+        && report.training_samples == profile.training_samples
+        && report.seed == profile.codebook_seed
+        && is_below(report.best_restart, profile.lloyd_restarts)
 }
 
 // A report against its profile: its schema, settings and winner, its errors, its counts.
+#[tactic(auto, unfolding(crate::specs::Report::report_test, crate::specs::Report::report_schema, profile::specs::Fields::ascii))]
 pub fn validate_against_profile(
     report: LloydReport,
     schema: &[u8],
     profile: FibQuantProfile,
-) -> Checked
-    ensures { checked result ≡ report_test report schema.now profile }
+) -> Result<(), Refusal>
+    ensures { outcome result ≡ report_test report schema.now profile }
 {
-    if !profile::checks::same(schema, b"lloyd_report_v1") {
-        return Checked::Refused(Refusal::Report(names::SETTINGS_SITE));
+    if !(profile::checks::same(schema, b"lloyd_report_v1") && same_settings(report, profile)) {
+        return Err(Refusal::Report(ReportSite::Settings));
     }
-    if !same_settings(report, profile) {
-        return Checked::Refused(Refusal::Report(names::SETTINGS_SITE));
-    }
-    if !ieee::is_finite(report.init_mse) {
-        return Checked::Refused(Refusal::Report(names::MSE_SITE));
-    }
-    if !ieee::is_finite(report.best_mse) {
-        return Checked::Refused(Refusal::Report(names::MSE_SITE));
+    if !(ieee::is_finite(report.init_mse) && ieee::is_finite(report.best_mse)) {
+        return Err(Refusal::Report(ReportSite::Mse));
     }
     if report.empty_cells_repaired != report.events_used {
-        return Checked::Refused(Refusal::Report(names::REPAIR_COUNT_SITE));
+        return Err(Refusal::Report(ReportSite::RepairCount));
     }
-    Checked::Accepted
+    Ok(())
 }

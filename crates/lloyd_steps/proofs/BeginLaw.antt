@@ -1,15 +1,15 @@
 -- The beginning of a refinement: the initial codebook is the first restart's
--- start and the best so far. How the rounds left fall. Assumes nothing.
+-- start and the best so far. Assumes nothing.
+use Rattle.std.specs.Prelude.{Err}
 use mathlib.Core.Path.{◌≡◌, refl, sym, ap, ◌∙◌, subst}
-use Prim.Native.Nat.{ℕ, suc, ◌+◌, ◌-◌, ◌*◌, ◌/◌, ◌<◌}
-use native.Mathlib.Nat.{suc-mul}
+use Prim.Native.Nat.{ℕ, ◌+◌, ◌*◌, ◌/◌}
 use native.Mathlib.Omega.{arith}
 use mathlib.Core.Bool.{Bool, true, false, true≢false}
 use mathlib.Core.List.{List}
 use lib.ListN.{length, get_or}
 use lib.Ieee.{Float, nan}
 use Rattle.error.specs.declared.Refusal.{Refusal}
-use Rattle.error.specs.Numbers.{Outcome, completed, refusal, and_then}
+use Rattle.error.specs.Numbers.{Outcome, completed, refusal, and_then, outcome}
 use Rattle.error.proofs.Refusals.{by_refusal}
 use Rattle.slices.specs.Lists.{patched}
 use Rattle.slices.proofs.ListLaw.{length-patched, patched_inside, patched_below}
@@ -18,10 +18,9 @@ use Rattle.lloyd_events.specs.declared.LloydRepairEvent.{LloydRepairEvent}
 use Rattle.lloyd_round.specs.Round.{Holding}
 use Rattle.lloyd_search.specs.Distance.{row_of}
 use Rattle.lloyd_search.specs.Nearest.{mean_error}
-use Rattle.lloyd_refine.specs.declared.Refinement.TheVariants.{Refused}
 use Rattle.lloyd_refine.specs.declared.RefineStep.{RefineStep}
 use Rattle.lloyd_refine.specs.Refine.{Job, size_of, dim_of, refine_checks, start_of, trained_from, error_of, Best, start_best, restarts_to, refine_of, refinement}
-use Rattle.lloyd_refine.specs.Report.{refinement_of, report_of}
+use Rattle.lloyd_refine.specs.Report.{report_of}
 use Rattle.lloyd_refine.specs.Standing.{RefineProgress}
 use Rattle.lloyd_steps.specs.Steps.{first_state, AtRound}
 use Rattle.lloyd_refine.proofs.CheckLaw.{checks_passed}
@@ -74,12 +73,12 @@ module _ (j : Job) (checked : refine_checks j ≡ completed tt) (work one two : 
 
 -- ---- refused by a check
 module _ (j : Job) (events : List LloydRepairEvent) (work : List Float) (ints : List ℕ) (s : RefineStep) where
-  pub unchecked : (x : Refusal) → s.going ≡ false → s.begun ≡ false → s.answer ≡ Refused x → refusal x ≡ refine_checks j → RefineProgress j events work ints s
+  pub unchecked : (x : Refusal) → s.going ≡ false → s.begun ≡ false → s.answer ≡ Err x → refusal x ≡ refine_checks j → RefineProgress j events work ints s
   unchecked x g b a e =
       let is : refinement j ≡ refusal x = ap (λ (o : Outcome Unit). and_then o (λ u. refine_of j)) (sym e) ∙ by_refusal (λ (q : Outcome Unit) (p : Outcome Best). and_then q (λ u. refine_of j) ≡ p) (λ n vs. refl) x in (
         λ z. absurd (true≢false (sym z ∙ g)),
         λ z. record {
-          answer = ap refinement_of a ∙ report_refused j x ∙ sym (ap (λ (o : Outcome Best). and_then o (λ y. completed (report_of j y))) is);
+          answer = ap outcome a ∙ report_refused j x ∙ sym (ap (λ (o : Outcome Best). and_then o (λ y. completed (report_of j y))) is);
           done = λ r k. absurd (not_completed x r (sym is ∙ k));
           begun = λ k. absurd (true≢false (sym k ∙ b));
           early = λ k u q. not_completed x u (e ∙ q);
@@ -93,19 +92,3 @@ module _ (j : Job) (events : List LloydRepairEvent) (work : List Float) (ints : 
       go : (t : Bool) → s.going ≡ t → ⊥
       go true e = true≢false (sym (p.0 e).begun ∙ b)
       go false e = (p.1 e).early b tt k
-
--- ---- the rounds left fall
-module _ (restarts iterations r i : ℕ) (below : r < restarts) (lower : i < iterations) where
-  one_less : (restarts - r) * iterations ≡ iterations + (restarts - (r + 1)) * iterations
-  one_less =
-      let e : restarts - r ≡ suc (restarts - (r + 1)) = omega arith in
-      ap (λ (z : ℕ). z * iterations) e ∙ suc-mul (restarts - (r + 1)) iterations ∙ swap ((restarts - (r + 1)) * iterations)
-    where
-      swap : (m : ℕ) → m + iterations ≡ iterations + m
-      swap m = omega arith
-
-  pub next_falls : (a b : ℕ) → a ≡ r → b ≡ i + 1 → (restarts - a) * iterations - b < (restarts - r) * iterations - i
-  next_falls a b p q = rw (p, q) (omega (arith, one_less))
-
-  pub restart_falls : (a b : ℕ) → a ≡ r + 1 → b ≡ 0 → (restarts - a) * iterations - b < (restarts - r) * iterations - i
-  restart_falls a b p q = rw (p, q) (omega (arith, one_less))

@@ -1,3 +1,4 @@
+pub mod ReadyLaw
 pub mod RoundLaw
 pub mod RestartLaw
 pub mod BeginLaw

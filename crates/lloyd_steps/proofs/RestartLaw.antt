@@ -1,4 +1,5 @@
 -- How a restart ends, how the next one starts, and how the refinement comes to its end. Assumes nothing.
+use Rattle.std.specs.Prelude.{Some, Ok}
 use mathlib.Core.Path.{◌≡◌, refl, sym, ap, ◌∙◌, subst}
 use Prim.Native.Nat.{ℕ, ◌+◌, ◌-◌, ◌*◌, ◌/◌, ◌%◌, ◌≤◌, ◌<◌}
 use native.Mathlib.Nat.{mul-div_cancel, zero-add, mul-le-mul_right}
@@ -10,7 +11,7 @@ use lib.ListN.{length, get_or, take}
 use lib.Seq.{ext_get_or, get_or-take, length-take-le}
 use lib.Ieee.{Float, nan, lt}
 use borrow.Author.Tests.{ne_eqb}
-use Rattle.error.specs.Numbers.{Outcome, completed, and_then}
+use Rattle.error.specs.Numbers.{Outcome, completed, and_then, outcome}
 use Rattle.error.proofs.Outcomes.{completed_same}
 use Rattle.slices.specs.Lists.{patched}
 use Rattle.slices.proofs.ListLaw.{length-patched, patched_inside, patched_above}
@@ -19,12 +20,10 @@ use Rattle.rotation.specs.Apply.{applied_at}
 use Rattle.lloyd_search.specs.Distance.{row_of}
 use Rattle.lloyd_search.specs.Nearest.{mean_error}
 use Rattle.lloyd_round.specs.Round.{Holding}
-use Rattle.lloyd_refine.specs.declared.Winner.TheVariants.{Restart}
-use Rattle.lloyd_refine.specs.declared.Refinement.TheVariants.{Report}
 use Rattle.lloyd_refine.specs.declared.RefineState.{RefineState}
 use Rattle.lloyd_refine.specs.declared.RefineStep.{RefineStep}
 use Rattle.lloyd_refine.specs.Refine.{Job, size_of, dim_of, count_of, restarts_of, iterations_of, refine_checks, Trained, rounds_to, matrix_of, initial_word, rotated, start_of, trained_from, error_of, Best, after_restart, restarts_to, refine_of, refinement}
-use Rattle.lloyd_refine.specs.Report.{refinement_of, report_of}
+use Rattle.lloyd_refine.specs.Report.{report_of}
 use Rattle.lloyd_refine.specs.Standing.{RefineProgress}
 use Rattle.lloyd_refine.specs.Pauses.{report_in, with_best}
 use Rattle.lloyd_steps.specs.Steps.{AtRound}
@@ -103,7 +102,7 @@ module _ {j : Job} {b : Best} {t : Trained} {s : RefineState} {work : List Float
   by_test : (z : Bool) → lt (error_in j work) s.best_mse ≡ z → Kept j (s.restart + 1) after (cond z (with_best (error_in j work) s) s) (cond z (copied j work) work)
   by_test true e =
       let q : lt (error_of j t.codebook) b.error ≡ true = ap (λ (x : Float). lt x b.error) (sym is_error) ∙ ap (lt (error_in j work)) (sym h.best) ∙ e in
-      let w : after ≡ record { codebook = t.codebook; error = error_of j t.codebook; winner = Restart s.restart; events = t.events } = rw q in
+      let w : after ≡ record { codebook = t.codebook; error = error_of j t.codebook; winner = Some s.restart; events = t.events } = rw q in
       record {
         floats = length-patched work (size_of j * dim_of j) (size_of j * dim_of j) (λ i. get_or work (0 + i) nan) ∙ h.floats;
         bests = bests_after;
@@ -138,7 +137,7 @@ module _ {j : Job} {b : Best} {t : Trained} {s : RefineState} {work : List Float
 
 -- the state in which restart r begins
 abbrev pub started_at : ℕ → RefineState → RefineState
-started_at r s = record { restart = r; iteration = 0; next = s.next; before = s.before; made = s.made; init_mse = s.init_mse; best_mse = s.best_mse; best_restart = s.best_restart }
+started_at r s = record s { restart = r; iteration = 0 }
 
 -- its number does not matter to what is kept
 pub kept_started : {j : Job} {r : ℕ} {b : Best} {s : RefineState} {work : List Float} → Kept j r b s work → Kept j r b (started_at r s) work
@@ -190,12 +189,12 @@ module _ {j : Job} {r : ℕ} {b : Best} {s : RefineState} {work : List Float} (h
 
 -- ---- the end
 module _ {j : Job} {b : Best} {s : RefineState} {work : List Float} (h : Kept j (restarts_of j) b s work) (checked : refine_checks j ≡ completed tt) where
-  pub refined : (ints : List ℕ) (p : RefineStep) → p.going ≡ false → p.begun ≡ true → p.answer ≡ Report (report_in j.profile s) → RefineProgress j b.events work ints p
+  pub refined : (ints : List ℕ) (p : RefineStep) → p.going ≡ false → p.begun ≡ true → p.answer ≡ Ok (report_in j.profile s) → RefineProgress j b.events work ints p
   refined ints p going begun answer =
       let is : refinement j ≡ completed b = ap (λ (o : Outcome Unit). and_then o (λ u. refine_of j)) checked ∙ h.bests in (
         λ z. absurd (true≢false (sym z ∙ going)),
         λ z. record {
-          answer = ap refinement_of answer ∙ ap completed same ∙ sym (ap (λ (o : Outcome Best). and_then o (λ x. completed (report_of j x))) is);
+          answer = ap outcome answer ∙ ap completed same ∙ sym (ap (λ (o : Outcome Best). and_then o (λ x. completed (report_of j x))) is);
           done = λ x e. subst (λ (y : Best). (b.events ≡ y.events) × Holding (size_of j) (dim_of j) (size_of j * dim_of j) y.codebook work) (completed_same b x (sym is ∙ e)) (refl, h.kept);
           begun = λ y. checked;
           early = λ y u v. true≢false (sym begun ∙ y);

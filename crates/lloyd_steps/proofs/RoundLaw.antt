@@ -1,18 +1,22 @@
 -- How a round begins, and how it ends. Assumes nothing.
+use Rattle.std.specs.Prelude.{Err}
 use mathlib.Core.Path.{◌≡◌, refl, sym, ap, ◌∙◌, subst}
 use Prim.Native.Nat.{ℕ, ◌+◌, ◌*◌, ◌/◌, ◌%◌, ◌≤◌, ◌<◌}
 use native.Mathlib.Nat.{mod-lt, div-add-mod', div-lt_iff_lt-mul}
 use native.Mathlib.Numerals.{add-one}
 use native.Mathlib.Omega.{arith}
+use mathlib.Core.Bool.{true, false}
 use mathlib.Core.List.{List, [], ◌∷◌}
 use lib.ListN.{length, get_or, take, length-append}
 use lib.Seq.{get_or-take, length-take-le}
 use lib.Ieee.{Float, nan}
 use borrow.Author.Tests.{lt-ltb, le-ltb}
+use Rattle.error.specs.declared.Refusal.TheVariants.{EmptyCells}
 use Rattle.error.specs.Numbers.{Outcome, completed, refused, and_then, whole}
 use Rattle.slices.specs.Lists.{patched, words_of}
 use Rattle.slices.proofs.ListLaw.{length-patched, patched_inside, patched_above}
 use Rattle.slices.proofs.TabulateLaw.{length-tabulate, get_d_tabulate}
+use Rattle.profile.specs.declared.EmptyCellPolicy.{EmptyCellPolicy}
 use Rattle.profile.specs.declared.EmptyCellPolicy.TheVariants.{SplitHighestDistortion, FailClosed}
 use Rattle.lloyd_cells.specs.Cells.{count_to}
 use Rattle.lloyd_cells.specs.Repair.{Repaired, repair_to}
@@ -22,10 +26,13 @@ use Rattle.lloyd_cells.proofs.TallyLaw.{tallied, tallied_some}
 use Rattle.lloyd_repair.specs.Running.{Running}
 use Rattle.lloyd_round.specs.Round.{places_of, numbers_of, Holding, Roomy, AtFirst}
 use Rattle.lloyd_refine.specs.declared.RefineState.{RefineState}
+use Rattle.lloyd_refine.specs.declared.RefineStep.{RefineStep}
 use Rattle.lloyd_refine.specs.Refine.{Job, size_of, dim_of, count_of, iterations_of, round_terms, round_of, Trained, after_round, rounds_to, trained_from, Best}
-use Rattle.lloyd_refine.specs.Standing.{round_means, round_far, InRound}
+use Rattle.lloyd_refine.specs.Standing.{round_means, round_far, InRound, RefineProgress}
 use Rattle.lloyd_steps.specs.Steps.{AtRound}
 use Rattle.lloyd_refine.proofs.CheckLaw.{checks_passed}
+use Rattle.lloyd_refine.proofs.EventLaw.{refused_by}
+use Rattle.lloyd_refine.proofs.TurnLaw.{not_refined}
 
 -- ---- the policy for empty cells
 module _ (j : Job) (r i used : ℕ) (codebook : List Float) where
@@ -35,7 +42,7 @@ module _ (j : Job) (r i used : ℕ) (codebook : List Float) where
   abbrev empty_of : ℕ
   empty_of = empty_cells (round_means j codebook).tally (size_of j)
 
-  pub split_round : j.profile.empty_cell_policy ≡ SplitHighestDistortion → round_of j r i used codebook ≡ repairs_of
+  split_round : j.profile.empty_cell_policy ≡ SplitHighestDistortion → round_of j r i used codebook ≡ repairs_of
   unfolding updated
   split_round h = rw h
 
@@ -47,10 +54,15 @@ module _ (j : Job) (r i used : ℕ) (codebook : List Float) where
   unfolding updated
   some_empty l h = rw (h, lt-ltb 0 empty_of l)
 
-  pub closed_round : (empty : ℕ) → empty ≡ empty_of → empty ≤ 0 → j.profile.empty_cell_policy ≡ FailClosed → round_of j r i used codebook ≡ repairs_of
-  closed_round empty e l h = none_empty (subst (λ (z : ℕ). z ≤ 0) e l) h
+  -- the repairs come unless the policy forbids empty cells and there are some
+  open_round : (empty : ℕ) → empty ≡ empty_of → (j.profile.empty_cell_policy ≡ FailClosed → empty ≤ 0) → round_of j r i used codebook ≡ repairs_of
+  open_round empty e l = go j.profile.empty_cell_policy refl
+    where
+      go : (p : EmptyCellPolicy) → j.profile.empty_cell_policy ≡ p → round_of j r i used codebook ≡ repairs_of
+      go SplitHighestDistortion h = split_round h
+      go FailClosed h = none_empty (subst (λ (z : ℕ). z ≤ 0) e (l h)) h
 
-  pub closed_refuses : (empty : ℕ) → empty ≡ empty_of → 0 < empty → j.profile.empty_cell_policy ≡ FailClosed → round_of j r i used codebook ≡ refused 14 (whole empty ∷ [])
+  closed_refuses : (empty : ℕ) → empty ≡ empty_of → 0 < empty → j.profile.empty_cell_policy ≡ FailClosed → round_of j r i used codebook ≡ refused 14 (whole empty ∷ [])
   closed_refuses empty e l h = some_empty (subst (λ (z : ℕ). 0 < z) e l) h ∙ ap (λ (z : ℕ). refused 14 (whole z ∷ [])) (sym e)
 
 -- no repair has been made yet
@@ -79,9 +91,14 @@ module _ {j : Job} {b : Best} {t : Trained} {s : RefineState} {work : List Float
     still : (at : ℕ) (codebook : List Float) → at ≤ size_of j * dim_of j → Holding (size_of j) (dim_of j) at codebook work → Holding (size_of j) (dim_of j) at codebook after
     still at codebook l q = record { size = q.size; values = λ i m. below (at + i) (omega arith) ∙ q.values i m }
 
-    pub in_round : s.iteration < iterations_of j → round_of j s.restart s.iteration (length t.events) t.codebook ≡ repairs_of j s.restart s.iteration (length t.events) t.codebook
+    counted : (empty : ℕ) → empty ≡ count_to (λ i. get_or (take (size_of j) left) i 0) 0 (length (take (size_of j) left)) → empty ≡ empty_of j s.restart s.iteration (length t.events) t.codebook
+    counted empty e =
+        e ∙ ap (count_to (λ i. get_or (take (size_of j) left) i 0) 0) (length-take-le (size_of j) left first.counts)
+        ∙ count_to_ext (λ i. get_or (take (size_of j) left) i 0) (round_means j t.codebook).tally 0 (size_of j) (λ i l. get_or-take (size_of j) left i 0 l ∙ first.held.tally i l)
+
+    pub in_round : s.iteration < iterations_of j → (empty : ℕ) → empty ≡ count_to (λ i. get_or (take (size_of j) left) i 0) 0 (length (take (size_of j) left)) → (j.profile.empty_cell_policy ≡ FailClosed → empty ≤ 0)
         → InRound j b t (unrepaired j t.codebook) s after left
-    in_round l e = record {
+    in_round l empty e allowed = record {
       checked = h.checked;
       floats = size ∙ h.floats;
       integers = same ∙ h.integers;
@@ -89,7 +106,7 @@ module _ {j : Job} {b : Best} {t : Trained} {s : RefineState} {work : List Float
       round_below = l;
       bests = h.bests;
       rounds = h.rounds;
-      repairs = e;
+      repairs = open_round j s.restart s.iteration (length t.events) t.codebook empty (counted empty e) allowed;
       running =
           subst (λ (z : ℕ). Running (places_of (size_of j) (dim_of j)) (numbers_of (size_of j)) (round_terms j s.restart s.iteration (length t.events)) j.samples (round_far j t.codebook) (round_means j t.codebook) z (unrepaired j t.codebook) after left) (sym h.first) first;
       current = still 0 t.codebook (omega arith) h.current;
@@ -101,16 +118,19 @@ module _ {j : Job} {b : Best} {t : Trained} {s : RefineState} {work : List Float
       winner = h.winner;
     }
 
-    pub counted : (empty : ℕ) → empty ≡ count_to (λ i. get_or (take (size_of j) left) i 0) 0 (length (take (size_of j) left)) → empty ≡ empty_of j s.restart s.iteration (length t.events) t.codebook
-    counted empty e =
-        e ∙ ap (count_to (λ i. get_or (take (size_of j) left) i 0) 0) (length-take-le (size_of j) left first.counts)
-        ∙ count_to_ext (λ i. get_or (take (size_of j) left) i 0) (round_means j t.codebook).tally 0 (size_of j) (λ i l. get_or-take (size_of j) left i 0 l ∙ first.held.tally i l)
+    -- or it is refused, as its policy forbids empty cells
+    pub closed : s.iteration < iterations_of j → (empty : ℕ) → empty ≡ count_to (λ i. get_or (take (size_of j) left) i 0) 0 (length (take (size_of j) left)) → 0 < empty → j.profile.empty_cell_policy ≡ FailClosed
+        → (p : RefineStep) → p.going ≡ false → p.begun ≡ true → p.answer ≡ Err (EmptyCells empty) → RefineProgress j t.events after left p
+    closed l empty e some policy p going begun answer =
+        not_refined j t.events after left p (EmptyCells empty) going begun answer h.checked
+        (refused_by j (EmptyCells empty) s.restart s.iteration b t h.checked h.restart_below l h.bests h.rounds
+        (closed_refuses j s.restart s.iteration (length t.events) t.codebook empty (counted empty e) some policy))
 
 -- ---- a round ends
 
 -- the state after a round
 abbrev pub ended : RefineState → RefineState
-ended s = record { restart = s.restart; iteration = s.iteration + 1; next = 0; before = s.before + s.made; made = 0; init_mse = s.init_mse; best_mse = s.best_mse; best_restart = s.best_restart }
+ended s = record s { iteration = s.iteration + 1; next = 0; before = s.before + s.made; made = 0 }
 
 module _ {j : Job} {b : Best} {t : Trained} {u : Repaired} {s : RefineState} {work : List Float} {ints : List ℕ} (h : InRound j b t u s work ints) (all : s.next ≡ size_of j) where
   came : repairs_of j s.restart s.iteration (length t.events) t.codebook ≡ completed u

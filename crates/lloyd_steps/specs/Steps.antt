@@ -1,10 +1,9 @@
 -- How a refinement stands between two rounds, and what its steps ask. Definitions only.
-use Rattle.std.specs.Prelude.{◌≡◌, ℕ, ◌-◌, ◌*◌, ◌≤◌, ◌<◌, List, length, Float}
+use Rattle.std.specs.Prelude.{◌≡◌, ℕ, ◌-◌, ◌*◌, ◌≤◌, ◌<◌, List, length, Float, None}
 use Rattle.error.specs.Numbers.{completed}
 use Rattle.profile.specs.declared.FibQuantProfile.{FibQuantProfile}
 use Rattle.lloyd_events.specs.declared.LloydRepairEvent.{LloydRepairEvent}
 use Rattle.lloyd_round.specs.Round.{Holding}
-use Rattle.lloyd_refine.specs.declared.Winner.TheVariants.{StartKept}
 use Rattle.lloyd_refine.specs.declared.RefineState.{RefineState}
 use Rattle.lloyd_refine.specs.declared.Pause.{Pause}
 use Rattle.lloyd_refine.specs.Refine.{Job, size_of, dim_of, restarts_of, iterations_of, refine_checks, Trained, rounds_to, trained_from, error_of, Best, restarts_to}
@@ -25,7 +24,7 @@ first_state e = record {
   made = 0;
   init_mse = e;
   best_mse = e;
-  best_restart = StartKept;
+  best_restart = None;
 }
 
 -- Between two rounds: earlier restarts came to b, the rounds of this one to t.

@@ -3,8 +3,8 @@
 // The public functions are public only for the crate above, which writes the event slots.
 #![tactic(auto)]
 
-ghost use Rattle.std.specs.Prelude.{◌≡◌, true, false, List, [], ◌∷◌, ◌++◌, ◌+◌, ◌*◌, ◌<◌, length};
-ghost use Rattle.error.specs.Numbers.{completed, checked};
+ghost use Rattle.std.specs.Prelude.{◌≡◌, Err, true, false, List, [], ◌∷◌, ◌++◌, ◌+◌, ◌*◌, ◌<◌, length};
+ghost use Rattle.error.specs.Numbers.{completed, outcome};
 ghost use Rattle.ieee.specs.Sum.{plus_zero};
 ghost use Rattle.lloyd_events.specs.declared.LloydRepairEvent.{LloydRepairEvent};
 ghost use Rattle.lloyd_events.specs.Events.{zero_event};
@@ -13,8 +13,8 @@ ghost use Rattle.lloyd_refine.specs.Standing.{job_of, Going, RefineProgress, Mat
 ghost use Rattle.lloyd_refine.specs.Pauses.{Over, Pausing};
 ghost use Rattle.lloyd_steps.specs.Steps.{rounds_left, first_state, AtRound, ReadyRound, ReadyOver, ReadyEnd, ReadyPause, ReadyJob};
 
-use error::{Checked, Refusal};
-use lloyd_refine::{Pause, RefineState, RefineStep, Refinement, Winner};
+use error::Refusal;
+use lloyd_refine::{Pause, RefineState, RefineStep};
 use profile::{EmptyCellPolicy, FibQuantProfile};
 
 // A round begins: samples go to their nearest codewords, the cells get their means, and then come the repairs.
@@ -38,13 +38,10 @@ fn start_round(
     let count = profile.training_samples as usize;
     lloyd_round::begin_round(samples, &mut *work, &mut *ints, n, k, count);
     let empty = lloyd_update::count_empty(&ints[..n]);
-    let policy = profile.empty_cell_policy;
-    if let EmptyCellPolicy::FailClosed = policy {
-        if 0 < empty {
-            let answer = Refinement::Refused(Refusal::EmptyCells(empty as u64));
-            let step = lloyd_refine::stop(true, s, answer);
-            return Pause { over: false, step };
-        }
+    if profile.empty_cell_policy == EmptyCellPolicy::FailClosed && 0 < empty {
+        let answer = Err(Refusal::EmptyCells(empty as u64));
+        let step = lloyd_refine::stop(true, s, answer);
+        return Pause { over: false, step };
     }
     lloyd_refine::repair_on(samples, work, ints, slots, profile, s)
 }
@@ -70,16 +67,15 @@ fn next_restart(
 {
     let n = profile.codebook_size as usize;
     let k = profile.block_dim as usize;
-    let mut t = lloyd_refine::keep_better(samples, &mut *work, n, k, s);
+    let kept = lloyd_refine::keep_better(samples, &mut *work, n, k, s);
     let restart = s.restart + 1;
-    t.restart = restart;
-    t.iteration = 0;
+    let t = RefineState {
+        restart,
+        iteration: 0,
+        ..kept
+    };
     if restart == profile.lloyd_restarts {
-        let step = lloyd_refine::stop(
-            true,
-            t,
-            Refinement::Report(lloyd_refine::report(profile, t)),
-        );
+        let step = lloyd_refine::stop(true, t, Ok(lloyd_refine::report(profile, t)));
         return Pause { over: false, step };
     }
     lloyd_restart::start_restart(initial, matrices, &mut *work, n, k, restart as usize);
@@ -107,11 +103,13 @@ fn next_round(
     let values = profile.codebook_size as usize * profile.block_dim as usize;
     lloyd_restart::copy_part(&mut *work, 2 * values, 0, values);
     let round = s.iteration + 1;
-    let mut t = s;
-    t.iteration = round;
-    t.next = 0;
-    t.before = s.before + s.made;
-    t.made = 0;
+    let t = RefineState {
+        iteration: round,
+        next: 0,
+        before: s.before + s.made,
+        made: 0,
+        ..s
+    };
     if round < profile.lloyd_iterations {
         return start_round(samples, work, ints, slots, profile, t);
     }
@@ -137,8 +135,7 @@ fn advance(
 {
     let mut pause = p;
     while pause.over {
-        let step = pause.step;
-        let state = step.state;
+        let state = pause.step.state;
         pause = next_round(
             initial, samples, matrices, &mut *work, &mut *ints, slots, profile, state,
         );
@@ -158,7 +155,7 @@ fn first_state(error: f64) -> RefineState
         made: 0,
         init_mse: error,
         best_mse: error,
-        best_restart: Winner::StartKept,
+        best_restart: None,
     }
 }
 
@@ -219,7 +216,7 @@ pub fn begin_refine(
         ints.len(),
         slots,
     );
-    if let Checked::Refused(r) = checked {
+    if let Err(r) = checked {
         return not_begun(r);
     }
     let p = start_refine(initial, samples, &mut *work, &mut *ints, slots, profile);
@@ -228,10 +225,10 @@ pub fn begin_refine(
 
 // Refused by a check.
 fn not_begun(r: Refusal) -> RefineStep
-    ensures { (result.going ≡ false) × (result.begun ≡ false) × (result.answer ≡ Refinement.Refused r)
+    ensures { (result.going ≡ false) × (result.begun ≡ false) × (result.answer ≡ Err r)
         × (result.event ≡ zero_event) × (result.state ≡ first_state plus_zero) }
 {
-    lloyd_refine::stop(false, first_state(0.0), Refinement::Refused(r))
+    lloyd_refine::stop(false, first_state(0.0), Err(r))
 }
 
 // The refinement goes on after the repair that s made, whose event is written by now. What stands in the work beside
@@ -252,7 +249,6 @@ pub fn next_refine(
         → Going j events work.old ints.old s
         → RefineProgress j (events ++ (s.event ∷ [])) work.new ints.new result }
 {
-    let state = s.state;
-    let p = lloyd_refine::repair_on(samples, &mut *work, &mut *ints, slots, profile, state);
+    let p = lloyd_refine::repair_on(samples, &mut *work, &mut *ints, slots, profile, s.state);
     advance(initial, samples, matrices, work, ints, slots, profile, p)
 }

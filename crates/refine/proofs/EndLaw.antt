@@ -1,13 +1,15 @@
 -- The end of a refinement: what its last step and the events so
 -- far say of its answer and of the buffers. Assumes nothing.
+use Rattle.std.specs.Prelude.{Ok, Err, Result, is_ok}
 use mathlib.Core.Path.{◌≡◌, refl, sym, ap, ◌∙◌}
 use Prim.Native.Nat.{ℕ, ◌+◌, ◌*◌, ◌≤◌, ◌<◌}
 use native.Mathlib.Omega.{arith}
-use mathlib.Core.Bool.{Bool, true, false, not, ◌&&◌, cond, true≢false}
+use mathlib.Core.Bool.{Bool, true, false, not, ◌&&◌, cond}
 use mathlib.Core.List.{List, []}
 use lib.ListN.{length, get_or, replicate}
 use lib.Ieee.{Float, nan, binary32}
-use Rattle.error.specs.Numbers.{Value, Outcome, completed, refused, and_then}
+use Rattle.error.specs.declared.Refusal.{Refusal}
+use Rattle.error.specs.Numbers.{Value, Outcome, completed, refused, and_then, outcome}
 use Rattle.slices.specs.Lists.{tabulate}
 use Rattle.slices.proofs.TabulateLaw.{tabulate_ext}
 use Rattle.narrow.specs.Pack.{narrow_to}
@@ -16,34 +18,23 @@ use Rattle.lloyd_events.specs.Events.{zero_event}
 use Rattle.lloyd_events.proofs.Log.{logged}
 use Rattle.lloyd_update.proofs.RepairsLaw.{not_completed}
 use Rattle.lloyd_refine.specs.declared.LloydReport.{LloydReport}
-use Rattle.lloyd_refine.specs.declared.Refinement.{Refinement}
-use Rattle.lloyd_refine.specs.declared.Refinement.TheVariants as refinements
 use Rattle.lloyd_refine.specs.declared.RefineStep.{RefineStep}
 use Rattle.lloyd_refine.specs.Refine.{Job, size_of, dim_of, refine_checks, Best, refine_of, refinement, narrowed, codewords_after, work_after, slots_after}
-use Rattle.lloyd_refine.specs.Report.{refinement_of, report_of}
-use Rattle.lloyd_refine.specs.Standing.{Ended, RefineProgress}
-use Rattle.lloyd_refine.specs.Pauses.{is_report}
+use Rattle.lloyd_refine.specs.Report.{report_of}
+use Rattle.lloyd_refine.specs.Standing.{Ended}
 use Rattle.lloyd_refine.proofs.CheckLaw.{checks_passed}
 
 -- ---- the answer's case is the outcome's
 abbrev reported : Job → Outcome Best → Outcome LloydReport
 reported j o = and_then o (λ b. completed (report_of j b))
 
-accepted : (a : Refinement) (r : LloydReport) → refinement_of a ≡ completed r → is_report a ≡ true
-accepted (refinements.Report r') r e = refl
-accepted (refinements.Refused x) r e = absurd (not_completed x r e)
+accepted : (a : Result LloydReport Refusal) (r : LloydReport) → outcome a ≡ completed r → is_ok a ≡ true
+accepted (Ok r') r e = refl
+accepted (Err x) r e = absurd (not_completed x r e)
 
-not_accepted : (a : Refinement) (n : ℕ) (vs : List Value) → refinement_of a ≡ refused n vs → is_report a ≡ false
-not_accepted (refinements.Report r) n vs e = let z : ◌≡◌ {A = ℕ} 0 1 = cc in absurd (omega arith)
-not_accepted (refinements.Refused x) n vs e = refl
-
--- a refinement that has passed its checks has begun
-pub has_begun : (j : Job) (events : List LloydRepairEvent) (work : List Float) (ints : List ℕ) (s : RefineStep) → RefineProgress j events work ints s → refine_checks j ≡ completed tt → s.begun ≡ false → ⊥
-has_begun j events work ints s p k b = go s.going refl
-  where
-    go : (t : Bool) → s.going ≡ t → ⊥
-    go true e = true≢false (sym (p.0 e).begun ∙ b)
-    go false e = (p.1 e).early b tt k
+not_accepted : (a : Result LloydReport Refusal) (n : ℕ) (vs : List Value) → outcome a ≡ refused n vs → is_ok a ≡ false
+not_accepted (Ok r) n vs e = let z : ◌≡◌ {A = ℕ} 0 1 = cc in absurd (omega arith)
+not_accepted (Err x) n vs e = refl
 
 -- the best codebook stands second in the work, and narrows to the codewords
 narrows : (n : ℕ) (codebook work : List Float) → length codebook ≡ n → ((i : ℕ) → i < n → get_or work (n + i) nan ≡ get_or codebook i nan) → tabulate n (λ i. narrow_to binary32 (get_or work (n + i) nan)) ≡ narrowed codebook
@@ -54,8 +45,8 @@ narrows n codebook work size values =
 -- ---- how a refinement that has stopped came out
 pub data Came (j : Job) (s : RefineStep) : Type 0 where
   unchecked : (n : ℕ) (vs : List Value) → s.begun ≡ false → refine_checks j ≡ refused n vs → Came j s
-  done : (b : Best) → s.begun ≡ true → is_report s.answer ≡ true → refine_checks j ≡ completed tt → refine_of j ≡ completed b → Came j s
-  late : (n : ℕ) (vs : List Value) → s.begun ≡ true → is_report s.answer ≡ false → refine_checks j ≡ completed tt → refine_of j ≡ refused n vs → Came j s
+  done : (b : Best) → s.begun ≡ true → is_ok s.answer ≡ true → refine_checks j ≡ completed tt → refine_of j ≡ completed b → Came j s
+  late : (n : ℕ) (vs : List Value) → s.begun ≡ true → is_ok s.answer ≡ false → refine_checks j ≡ completed tt → refine_of j ≡ refused n vs → Came j s
 
 module _ (j : Job) (events : List LloydRepairEvent) (work : List Float) (s : RefineStep) (e : Ended j events work s) where
   whole : refine_checks j ≡ completed tt → (o : Outcome Best) → refine_of j ≡ o → refinement j ≡ o
@@ -73,18 +64,18 @@ module _ (j : Job) (events : List LloydRepairEvent) (work : List Float) (s : Ref
       go false b (completed u) k = absurd (e.early b u k)
       go false b (refused n vs) k = unchecked n vs b k
 
-  pub answered : (a : Refinement) → a ≡ s.answer → refinement_of a ≡ and_then (refinement j) (λ b. completed (report_of j b))
-  answered a is = ap refinement_of is ∙ e.answer
+  pub answered : (a : Result LloydReport Refusal) → a ≡ s.answer → outcome a ≡ and_then (refinement j) (λ b. completed (report_of j b))
+  answered a is = ap outcome is ∙ e.answer
 
   -- once updating has begun, the work is long enough for the best codebook
   pub long_enough : (codewords : List Float) → length codewords ≡ j.codewords → length work ≡ j.float_work → s.begun ≡ true → 2 * length codewords ≤ length work
   long_enough codewords lc lw b = let p = checks_passed j (e.begun b) in omega (arith, lc, lw, p.floats, p.codewords_length)
 
   pub codewords_are : (codewords : List Float) → length codewords ≡ j.codewords
-      → cond (s.begun && is_report s.answer) (tabulate (length codewords) (λ i. narrow_to binary32 (get_or work (length codewords + i) nan))) codewords ≡ codewords_after j codewords
+      → cond (s.begun && is_ok s.answer) (tabulate (length codewords) (λ i. narrow_to binary32 (get_or work (length codewords + i) nan))) codewords ≡ codewords_after j codewords
   codewords_are codewords l = by came
     where
-      by : Came j s → cond (s.begun && is_report s.answer) (tabulate (length codewords) (λ i. narrow_to binary32 (get_or work (length codewords + i) nan))) codewords ≡ codewords_after j codewords
+      by : Came j s → cond (s.begun && is_ok s.answer) (tabulate (length codewords) (λ i. narrow_to binary32 (get_or work (length codewords + i) nan))) codewords ≡ codewords_after j codewords
       by (unchecked n vs b k) = rw (b, k)
       by (done r b a k q) =
           let size = l ∙ (checks_passed j k).codewords_length in
@@ -101,10 +92,10 @@ module _ (j : Job) (events : List LloydRepairEvent) (work : List Float) (s : Ref
       by (done r b a k q) = rw (b, k, q, l)
       by (late n vs b a k q) = rw (b, k, q, l)
 
-  pub slots_are : (slots : List LloydRepairEvent) → (s.begun ≡ false → events ≡ []) → cond (s.begun && not (is_report s.answer)) (replicate (length slots) zero_event) (logged events slots) ≡ slots_after j slots
+  pub slots_are : (slots : List LloydRepairEvent) → (s.begun ≡ false → events ≡ []) → cond (s.begun && not (is_ok s.answer)) (replicate (length slots) zero_event) (logged events slots) ≡ slots_after j slots
   slots_are slots early = by came
     where
-      by : Came j s → cond (s.begun && not (is_report s.answer)) (replicate (length slots) zero_event) (logged events slots) ≡ slots_after j slots
+      by : Came j s → cond (s.begun && not (is_ok s.answer)) (replicate (length slots) zero_event) (logged events slots) ≡ slots_after j slots
       by (unchecked n vs b k) = rw (b, k) (ap (λ (z : List LloydRepairEvent). logged z slots) (early b))
       by (done r b a k q) = rw (b, a, k, q) (ap (λ (z : List LloydRepairEvent). logged z slots) (e.done r (whole k (completed r) q)).0)
       by (late n vs b a k q) = rw (b, a, k, q)

@@ -3,14 +3,15 @@
 #![tactic(auto)]
 
 ghost use Rattle.std.specs.Prelude.{◌≡◌, length};
-ghost use Rattle.error.specs.Numbers.{completed, and_then};
+ghost use Rattle.error.specs.Numbers.{completed, and_then, outcome};
 ghost use Rattle.ieee.specs.Sum.{plus_zero};
 ghost use Rattle.lloyd_refine.specs.Refine.{refinement, codewords_after, work_after, slots_after};
-ghost use Rattle.lloyd_refine.specs.Report.{refinement_of, report_of};
+ghost use Rattle.lloyd_refine.specs.Report.{report_of};
 ghost use Rattle.lloyd_refine.specs.Standing.{job_of};
 
+use error::Refusal;
 use lloyd_events::LloydRepairEvent;
-use lloyd_refine::Refinement;
+use lloyd_refine::LloydReport;
 use profile::FibQuantProfile;
 
 // Refinement: from the initial codebook, and from its image under each matrix, rounds of nearest codewords and updates.
@@ -27,11 +28,11 @@ pub fn refine_codebook(
     rotation_algorithm: &[u8],
     log2: f64,
     events: &mut [LloydRepairEvent],
-) -> Refinement
+) -> Result<LloydReport, Refusal>
     ensures { let j = job_of profile schema.now rotation_algorithm.now log2
         initial.now samples.now matrices.now (length codewords.old)
         (length work.old) (length ints.old) (length events.old) in
-        (refinement_of result ≡ and_then (refinement j) (λ b. completed (report_of j b)))
+        (outcome result ≡ and_then (refinement j) (λ b. completed (report_of j b)))
         × (codewords.new ≡ codewords_after j codewords.old)
         × (work.new ≡ work_after plus_zero j work.old)
         × (ints.new ≡ work_after 0 j ints.old)

@@ -2,10 +2,10 @@
 use lib.Ieee.{of_bits}
 use Rattle.lloyd_refine.proofs.check_values.Goals as goal
 
-pub returns-in-Nowhere : goal.returns-in-Nowhere
+pub returns-in-None : goal.returns-in-None
 unfolding of_bits
-returns-in-Nowhere c = rw (← c.first_outside.ensures, c.in-Nowhere.is)
+returns-in-None c = rw (← c.first_outside.ensures, c.in-None.is)
 
-pub returns-in-At : goal.returns-in-At
+pub returns-in-Some : goal.returns-in-Some
 unfolding of_bits
-returns-in-At c = rw (← c.first_outside.ensures, c.in-At.is)
+returns-in-Some c = rw (← c.first_outside.ensures, c.in-Some.is)

@@ -1,6 +1,6 @@
 -- `lloyd_steps::next_refine` meets its contract: the repairs go on after
 -- the one that was made, and the rounds after them. Assumes nothing.
-use mathlib.Core.Path.{refl, ◌∙◌, subst}
+use mathlib.Core.Path.{refl, subst}
 use mathlib.Core.List.{List, ◌++◌}
 use Prim.Native.Nat.{ℕ}
 use lib.Ieee.{Float}
@@ -14,20 +14,11 @@ use Rattle.lloyd_steps.proofs.next_refine.Goals as goal
 repairs_match : {j : Job} {p : FibQuantProfile} {start xs ms : List Float} {most : ℕ} → Matches j p start xs ms most → Matches j p j.initial xs j.matrices most
 repairs_match same = record { profile = same.profile; initial = refl; samples = same.samples; matrices = refl; slots = same.slots }
 
-pub repair_on-p-requires : goal.repair_on-p-requires
-repair_on-p-requires c = let q = c.requires in let g = q.going in record { job = q.job; b = g.b; t = g.t; u = g.u; matches = repairs_match q.matches; standing = g.standing }
-
 pub advance-requires : goal.advance-requires
 advance-requires c =
     let q = c.requires in
     let g = q.going in
     record { job = q.job; events = g.t.events ++ g.u.events; matches = q.matches; stands = c.repair_on-p.ensures.stands q.job g.b g.t g.u (repairs_match q.matches) g.standing }
-
-pub shape_of-work : goal.shape_of-work
-shape_of-work c = c.advance.auto.work ∙ c.repair_on-p.auto.work
-
-pub shape_of-ints : goal.shape_of-ints
-shape_of-ints c = c.advance.auto.ints ∙ c.repair_on-p.auto.ints
 
 pub returns : goal.returns
 returns c =

@@ -1,5 +1,5 @@
 -- `refine::refine_codebook`: a turn writes one event more, and the end is by the last step. Assumes nothing.
-use Rattle.std.proofs.Common.{◌≡◌, ℕ, ◌+◌, Bool, not, ◌&&◌, cond, List, [], ◌∷◌, ◌++◌, length, set, replicate, refl, sym, ap, ◌∙◌}
+use Rattle.std.proofs.Common.{◌≡◌, ℕ, ◌+◌, Bool, not, is_ok, ◌&&◌, cond, List, [], ◌∷◌, ◌++◌, length, set, replicate, refl, sym, ap, ◌∙◌}
 use Rattle.ieee.specs.Sum.{plus_zero}
 use Rattle.lloyd_events.specs.declared.LloydRepairEvent.{LloydRepairEvent}
 use Rattle.lloyd_events.specs.Events.{zero_event}
@@ -7,14 +7,15 @@ use Rattle.lloyd_events.proofs.Log.{logged, log_more, length_more}
 use Rattle.lloyd_refine.specs.declared.RefineStep.{RefineStep}
 use Rattle.lloyd_refine.specs.Refine.{Job}
 use Rattle.lloyd_refine.specs.Standing.{job_of}
-use Rattle.lloyd_refine.specs.Pauses.{is_report}
-use Rattle.refine.proofs.EndLaw.{has_begun, answered, long_enough, codewords_are, work_is, slots_are}
+use Rattle.lloyd_steps.proofs.BeginLaw.{has_begun}
+use Rattle.lloyd_steps.proofs.ReadyLaw.{fits_itself}
+use Rattle.refine.proofs.EndLaw.{answered, long_enough, codewords_are, work_is, slots_are}
 use Rattle.refine.proofs.refine_codebook.Goals as goal
 use Rattle.refine.proofs.refine_codebook.Goals.{then-refused_after_start, else-refused_after_start}
 
 -- the slots at the end
 abbrev logged_by : RefineStep → List LloydRepairEvent → List LloydRepairEvent → List LloydRepairEvent
-logged_by s events slots = cond (s.begun && not (is_report s.answer)) (replicate (length slots) zero_event) (logged events slots)
+logged_by s events slots = cond (s.begun && not (is_ok s.answer)) (replicate (length slots) zero_event) (logged events slots)
 
 pub loop-s-preserved : goal.loop-s-preserved
 loop-s-preserved c =
@@ -24,7 +25,7 @@ loop-s-preserved c =
     let slots = c.args.events.now in
     let job : Job = job_of c.args.profile c.args.schema.now c.args.rotation_algorithm.now c.args.log2 c.args.initial.now c.args.samples.now c.args.matrices.now (length c.args.codewords.now) (length c.args.work.now) (length c.args.ints.now) (length slots) in
     let one_more : c.loop-s.used + 1 ≡ length (t.events ++ (e ∷ [])) = ap (λ (k : ℕ). k + 1) t.is_used ∙ sym (length_more t.events e) in
-    let goes_on = c.next_refine-s.ensures job t.events (record { profile = refl; initial = refl; samples = refl; matrices = refl; slots = refl }) going in
+    let goes_on = c.next_refine-s.ensures job t.events (fits_itself job) going in
     record {
       events = t.events ++ (e ∷ []);
       progress = goes_on;
