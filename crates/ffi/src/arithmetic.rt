@@ -8,17 +8,7 @@ ghost use Rattle.narrow.specs.Pack.{packed, narrow_to};
 ghost use Rattle.root.specs.Sqrt.{sqrt_of};
 ghost use Rattle.ffi_crossing.specs.Crossing.{found, crossed, one_whole, one_real};
 
-use ffi_crossing::put;
-
-// The pattern of x; every NaN has the quiet one without a sign.
-fn bits_of(x: f32) -> u32
-    ensures { result ≡ to_bits binary32 x }
-{
-    if x != x {
-        return 0x7fc0_0000;
-    }
-    f32::to_bits(x)
-}
+use ffi_crossing::put_answer;
 
 // x at binary32, its bits in whole[0].
 #[unsafe(no_mangle)]
@@ -26,8 +16,8 @@ pub extern "C" fn fib_f64_to_f32(x: f64, whole: &mut [u64; 4], real: &mut [f64; 
     ensures { found result whole.new real.new
         ≡ crossed one_whole (completed (to_bits binary32 (narrow_to binary32 x))) }
 {
-    let bits = bits_of(narrow::f64_to_f32(x));
-    put(0, [bits as u64, 0, 0, 0], [0.0, 0.0], whole, real)
+    let bits = std::num::f32_to_bits_with_nan(narrow::f64_to_f32(x));
+    put_answer(Ok(bits), whole, real)
 }
 
 // x at binary16, its bits in whole[0].
@@ -35,8 +25,7 @@ pub extern "C" fn fib_f64_to_f32(x: f64, whole: &mut [u64; 4], real: &mut [f64; 
 pub extern "C" fn fib_f32_to_f16(x: f32, whole: &mut [u64; 4], real: &mut [f64; 2]) -> u32
     ensures { found result whole.new real.new ≡ crossed one_whole (completed (packed 11 15 x)) }
 {
-    let bits = narrow::f32_to_f16_bits(x);
-    put(0, [bits as u64, 0, 0, 0], [0.0, 0.0], whole, real)
+    put_answer(Ok(narrow::f32_to_f16_bits(x)), whole, real)
 }
 
 // The value of a binary16 pattern, its binary32 bits in whole[0].
@@ -45,8 +34,8 @@ pub extern "C" fn fib_f16_to_f32(bits: u16, whole: &mut [u64; 4], real: &mut [f6
     ensures { found result whole.new real.new
         ≡ crossed one_whole (completed (to_bits binary32 (unpacked 11 15 bits))) }
 {
-    let wide = bits_of(narrow::f16_bits_to_f32(bits));
-    put(0, [wide as u64, 0, 0, 0], [0.0, 0.0], whole, real)
+    let wide = std::num::f32_to_bits_with_nan(narrow::f16_bits_to_f32(bits));
+    put_answer(Ok(wide), whole, real)
 }
 
 // The root in real[0].
@@ -55,6 +44,5 @@ pub extern "C" fn fib_sqrt(x: f64, whole: &mut [u64; 4], real: &mut [f64; 2]) ->
     ensures { found result whole.new real.new
         ≡ crossed one_real (completed (sqrt_of binary64 x)) }
 {
-    let root = root::sqrt(x);
-    put(0, [0, 0, 0, 0], [root, 0.0], whole, real)
+    put_answer(Ok(root::sqrt(x)), whole, real)
 }

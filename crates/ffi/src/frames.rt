@@ -5,8 +5,7 @@ ghost use Rattle.compact.specs.Frame.{writing, frame_of, parsed};
 ghost use Rattle.ffi_crossing.specs.Crossing.{found, crossed, none};
 ghost use Rattle.ffi.specs.Frames.{lengths_in};
 
-use compact::Parsed;
-use ffi_crossing::{put, put_checked, put_refusal};
+use ffi_crossing::{put, put_answer, put_refusal};
 
 // A frame into `output`, which must be as long as it.
 #[unsafe(no_mangle)]
@@ -25,7 +24,7 @@ pub extern "C" fn fib_write_frame(
         ≡ if_completed o (frame_of width count norm.now indices.now) output.old) }
 {
     let written = compact::write_compact(width, count, norm, indices, output);
-    put_checked(written, whole, real)
+    put_answer(written, whole, real)
 }
 
 // Width, count, and the lengths of norm and indices in `whole`.
@@ -34,9 +33,8 @@ pub extern "C" fn fib_parse_frame(bytes: &[u8], whole: &mut [u64; 4], real: &mut
     ensures { found result whole.new real.new
         ≡ crossed lengths_in (parsed bytes.now) }
 {
-    let answer = compact::parse_compact(bytes);
-    match answer {
-        Parsed::Frame(frame) => {
+    match compact::parse_compact(bytes) {
+        Ok(frame) => {
             let norm = compact::norm_part(bytes, frame);
             let indices = compact::index_part(bytes, frame);
             let lengths = [
@@ -45,8 +43,8 @@ pub extern "C" fn fib_parse_frame(bytes: &[u8], whole: &mut [u64; 4], real: &mut
                 norm.len() as u64,
                 indices.len() as u64,
             ];
-            put(0, lengths, [0.0, 0.0], whole, real)
+            put(0, lengths, [0.0; 2], whole, real)
         }
-        Parsed::Refused(refusal) => put_refusal(refusal, whole, real),
+        Err(refusal) => put_refusal(refusal, whole, real),
     }
 }

@@ -5,8 +5,7 @@ ghost use Rattle.rotation.specs.Apply.{applied, applied_inverse, shape};
 ghost use Rattle.metrics.specs.Mse.{mse_outcome};
 ghost use Rattle.ffi_crossing.specs.Crossing.{found, crossed, none, one_real};
 
-use ffi_crossing::{put, put_checked, put_refusal};
-use metrics::MeanError;
+use ffi_crossing::put_answer;
 
 // The matrix times the input.
 #[unsafe(no_mangle)]
@@ -25,7 +24,7 @@ pub extern "C" fn fib_apply(
         ≡ if_completed o (applied dim matrix.now input.now) output.old) }
 {
     let answer = rotation::apply(dim, matrix, input, output);
-    put_checked(answer, whole, real)
+    put_answer(answer, whole, real)
 }
 
 // The transposed matrix times the input.
@@ -45,7 +44,7 @@ pub extern "C" fn fib_apply_inverse(
         ≡ if_completed o (applied_inverse dim matrix.now input.now) output.old) }
 {
     let answer = rotation::apply_inverse(dim, matrix, input, output);
-    put_checked(answer, whole, real)
+    put_answer(answer, whole, real)
 }
 
 // The error in real[0].
@@ -60,8 +59,5 @@ pub extern "C" fn fib_mse(
         ≡ crossed one_real (mse_outcome left.now right.now) }
 {
     let answer = metrics::mse(left, right);
-    match answer {
-        MeanError::Value(error) => put(0, [0, 0, 0, 0], [error, 0.0], whole, real),
-        MeanError::Refused(refusal) => put_refusal(refusal, whole, real),
-    }
+    put_answer(answer, whole, real)
 }

@@ -5,7 +5,7 @@ ghost use Rattle.bitpack.specs.Layout.{packed_bytes, unpacked_indices};
 ghost use Rattle.bitpack.specs.Answers.{packable, unpackable};
 ghost use Rattle.ffi_crossing.specs.Crossing.{found, crossed, none};
 
-use ffi_crossing::put_checked;
+use ffi_crossing::put_answer;
 
 // Indices into `output`, which must be as long as their packing.
 #[unsafe(no_mangle)]
@@ -21,7 +21,7 @@ pub extern "C" fn fib_pack_indices(
         × (output.new ≡ if_completed o (packed_bytes indices.now width) output.old) }
 {
     let packed = bitpack::pack_indices(indices, width, output);
-    put_checked(packed, whole, real)
+    put_answer(packed, whole, real)
 }
 
 // The `count` indices of a packing into `output`, which must have room for just these.
@@ -40,5 +40,5 @@ pub extern "C" fn fib_unpack_indices(
         ≡ if_completed o (unpacked_indices bytes.now count width) output.old) }
 {
     let unpacked = bitpack::unpack_indices(bytes, count, width, output);
-    put_checked(unpacked, whole, real)
+    put_answer(unpacked, whole, real)
 }

@@ -5,8 +5,8 @@ ghost use Rattle.profile.specs.Paper.{paper_of, wire_bits_of, block_count_of, sa
 ghost use Rattle.ffi_crossing.specs.Crossing.{found, crossed, none, one_whole};
 ghost use Rattle.ffi_profile.specs.Profiles.{profile_from, rates_in, fields_after};
 
-use ffi_crossing::{put, put_checked, put_refusal};
-use profile::{BlockCount, FibQuantProfile, PaperProfile, Samples, WireBits};
+use ffi_crossing::{put, put_answer, put_refusal};
+use profile::FibQuantProfile;
 
 // A whole profile.
 #[unsafe(no_mangle)]
@@ -60,7 +60,7 @@ pub extern "C" fn fib_validate_profile(
         empty_cell_policy,
     );
     let verdict = profile.validate(schema, rotation_algorithm, log2);
-    put_checked(verdict, whole, real)
+    put_answer(verdict, whole, real)
 }
 
 // The width of an index in whole[0].
@@ -72,11 +72,7 @@ pub extern "C" fn fib_wire_index_bits(
 ) -> u32
     ensures { found result whole.new real.new ≡ crossed one_whole (wire_bits_of codebook_size) }
 {
-    let answer = profile::wire_index_bits(codebook_size);
-    match answer {
-        WireBits::Bits(bits) => put(0, [bits as u64, 0, 0, 0], [0.0, 0.0], whole, real),
-        WireBits::Refused(refusal) => put_refusal(refusal, whole, real),
-    }
+    put_answer(profile::wire_index_bits(codebook_size), whole, real)
 }
 
 // A profile of which only the dimensions are meant.
@@ -114,11 +110,11 @@ pub extern "C" fn fib_block_count(
     ensures { found result whole.new real.new
         ≡ crossed one_whole (block_count_of ambient_dim block_dim) }
 {
-    let answer = with_dimensions(ambient_dim, block_dim).block_count();
-    match answer {
-        BlockCount::Blocks(blocks) => put(0, [blocks as u64, 0, 0, 0], [0.0, 0.0], whole, real),
-        BlockCount::Refused(refusal) => put_refusal(refusal, whole, real),
-    }
+    put_answer(
+        with_dimensions(ambient_dim, block_dim).block_count(),
+        whole,
+        real,
+    )
 }
 
 // The default number of training samples in whole[0].
@@ -130,11 +126,11 @@ pub extern "C" fn fib_default_training_samples(
 ) -> u32
     ensures { found result whole.new real.new ≡ crossed one_whole (samples_of codebook_size) }
 {
-    let answer = profile::default_training_samples(codebook_size);
-    match answer {
-        Samples::Count(samples) => put(0, [samples as u64, 0, 0, 0], [0.0, 0.0], whole, real),
-        Samples::Refused(refusal) => put_refusal(refusal, whole, real),
-    }
+    put_answer(
+        profile::default_training_samples(codebook_size),
+        whole,
+        real,
+    )
 }
 
 // The paper's profile: its rates in `real`, its other fields in `fields`.
@@ -153,14 +149,15 @@ pub extern "C" fn fib_paper_default(
         (found result whole.new real.new ≡ crossed rates_in o)
         × (fields.new ≡ fields_after o fields.old) }
 {
-    let answer = FibQuantProfile::paper_default(ambient_dim, block_dim, codebook_size, seed, log2);
-    match answer {
-        PaperProfile::Built(profile) => {
+    match FibQuantProfile::paper_default(ambient_dim, block_dim, codebook_size, seed, log2) {
+        Ok(profile) => {
             *fields = ffi_profile::fields_of(profile);
-            let paper = profile.paper_rate_bits_per_coord;
-            let wire = profile.wire_bits_per_coord;
-            put(0, [0, 0, 0, 0], [paper, wire], whole, real)
+            let rates = [
+                profile.paper_rate_bits_per_coord,
+                profile.wire_bits_per_coord,
+            ];
+            put(0, [0; 4], rates, whole, real)
         }
-        PaperProfile::Refused(refusal) => put_refusal(refusal, whole, real),
+        Err(refusal) => put_refusal(refusal, whole, real),
     }
 }

@@ -7,8 +7,7 @@ ghost use Rattle.codebook.specs.Codebook.{codeword_alone, codewords_alone};
 ghost use Rattle.norm.specs.Norm.{norm_bits, norm_value};
 ghost use Rattle.ffi_crossing.specs.Crossing.{found, crossed, none, one_whole, one_real};
 
-use ffi_crossing::{put, put_checked, put_refusal};
-use norm::{NormBits, NormValue};
+use ffi_crossing::put_answer;
 
 // A codeword into `output`, which must be as long as it.
 #[unsafe(no_mangle)]
@@ -28,7 +27,7 @@ pub extern "C" fn fib_codeword(
         (tabulate block_dim (row_of block_dim codewords.now index)) output.old) }
 {
     let answer = codebook::codeword(codewords, codebook_size, block_dim, index, output);
-    put_checked(answer, whole, real)
+    put_answer(answer, whole, real)
 }
 
 // The number and the values of codewords.
@@ -44,7 +43,7 @@ pub extern "C" fn fib_check_codewords(
         ≡ crossed none (codewords_alone codebook_size block_dim codewords.now) }
 {
     let answer = codebook::check_codewords(codewords, codebook_size, block_dim);
-    put_checked(answer, whole, real)
+    put_answer(answer, whole, real)
 }
 
 // The pattern of a norm in whole[0].
@@ -52,11 +51,7 @@ pub extern "C" fn fib_check_codewords(
 pub extern "C" fn fib_encode_norm(norm: f64, whole: &mut [u64; 4], real: &mut [f64; 2]) -> u32
     ensures { found result whole.new real.new ≡ crossed one_whole (norm_bits norm) }
 {
-    let answer = norm::encode_norm(norm);
-    match answer {
-        NormBits::Bits(bits) => put(0, [bits as u64, 0, 0, 0], [0.0, 0.0], whole, real),
-        NormBits::Refused(refusal) => put_refusal(refusal, whole, real),
-    }
+    put_answer(norm::encode_norm(norm), whole, real)
 }
 
 // The norm in real[0].
@@ -65,9 +60,5 @@ pub extern "C" fn fib_decode_norm(payload: &[u8], whole: &mut [u64; 4], real: &m
     ensures { found result whole.new real.new
         ≡ crossed one_real (norm_value payload.now) }
 {
-    let answer = norm::decode_norm(payload);
-    match answer {
-        NormValue::Value(norm) => put(0, [0, 0, 0, 0], [norm, 0.0], whole, real),
-        NormValue::Refused(refusal) => put_refusal(refusal, whole, real),
-    }
+    put_answer(norm::decode_norm(payload), whole, real)
 }

@@ -3,24 +3,11 @@ ghost use Rattle.std.specs.Prelude.{◌≡◌, length, replicate};
 ghost use Rattle.error.specs.Numbers.{if_completed, accepted, contents};
 ghost use Rattle.ieee.specs.Sum.{plus_zero};
 ghost use Rattle.decode.specs.Decode.{decode_call, decodable, decoding};
-ghost use Rattle.encode.specs.Encode.{encode_call, encoding, counting, encoded_of};
+ghost use Rattle.encode.specs.Encode.{encode_call, encoding, counting};
 ghost use Rattle.ffi_profile.specs.Profiles.{profile_from};
 ghost use Rattle.ffi_crossing.specs.Crossing.{found, crossed, none, one_whole};
 
-use encode::Encoded;
-use ffi_crossing::{put, put_checked, put_refusal};
-
-// The number of tied blocks, or the refusal.
-fn put_encoded(answer: Encoded, whole: &mut [u64; 4], real: &mut [f64; 2]) -> u32
-    ensures { found result whole.new real.new ≡ crossed one_whole (encoded_of answer) }
-{
-    match answer {
-        Encoded::Written { tied_blocks } => {
-            put(0, [tied_blocks as u64, 0, 0, 0], [0.0, 0.0], whole, real)
-        }
-        Encoded::Refused(refusal) => put_refusal(refusal, whole, real),
-    }
-}
+use ffi_crossing::put_answer;
 
 // The frame of a vector into `output`, which must be as long as it; in whole[0] for how many of its blocks another
 // codeword is as near as the one chosen.
@@ -83,7 +70,7 @@ pub extern "C" fn fib_encode(
         training_samples,
         empty_cell_policy,
     );
-    let answer = encode::encode(
+    let written = encode::encode(
         profile,
         schema,
         rotation_algorithm,
@@ -94,7 +81,7 @@ pub extern "C" fn fib_encode(
         output,
         work,
     );
-    put_encoded(answer, whole, real)
+    put_answer(written, whole, real)
 }
 
 // The vector of a frame into `output`.
@@ -168,5 +155,5 @@ pub extern "C" fn fib_decode(
         output,
         work,
     );
-    put_checked(answer, whole, real)
+    put_answer(answer, whole, real)
 }

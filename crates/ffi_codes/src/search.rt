@@ -1,18 +1,10 @@
 // The search for the nearest codeword, and the mean error of a codebook, for the host.
-ghost use Rattle.std.specs.Prelude.{◌≡◌, cond};
+ghost use Rattle.std.specs.Prelude.{◌≡◌};
 ghost use Rattle.lloyd_alone.specs.Answers.{nearest_alone, mean_error_alone};
 ghost use Rattle.ffi_crossing.specs.Crossing.{found, crossed, one_real};
 ghost use Rattle.ffi_codes.specs.Search.{found_in};
 
-use ffi_crossing::{put, put_refusal};
-use lloyd_alone::{CodebookError, NearestCodeword};
-
-// A mark as a number: 1, else 0.
-fn number_of(mark: bool) -> u64
-    ensures { result ≡ cond mark 1 0 }
-{
-    if mark { 1 } else { 0 }
-}
+use ffi_crossing::{put, put_answer, put_refusal};
 
 // The index in whole[0], and in whole[1] whether another codeword has the same distance (1, else 0); the distance in
 // real[0].
@@ -28,20 +20,18 @@ pub extern "C" fn fib_nearest(
     ensures { found result whole.new real.new
         ≡ crossed found_in (nearest_alone codebook_size block_dim codewords.now block.now) }
 {
-    let answer = lloyd_alone::nearest_index(codewords, codebook_size, block_dim, block);
-    match answer {
-        NearestCodeword::Nearest(marked) => {
+    match lloyd_alone::nearest_index(codewords, codebook_size, block_dim, block) {
+        Ok(marked) => {
             let found = marked.found;
-            let tied = number_of(marked.tied);
             put(
                 0,
-                [found.index as u64, tied, 0, 0],
+                [found.index as u64, marked.tied as u64, 0, 0],
                 [found.distance, 0.0],
                 whole,
                 real,
             )
         }
-        NearestCodeword::Refused(refusal) => put_refusal(refusal, whole, real),
+        Err(refusal) => put_refusal(refusal, whole, real),
     }
 }
 
@@ -59,8 +49,5 @@ pub extern "C" fn fib_mean_error(
         ≡ crossed one_real (mean_error_alone codebook_size block_dim codewords.now samples.now) }
 {
     let answer = lloyd_alone::mse_for_codebook(codewords, codebook_size, block_dim, samples);
-    match answer {
-        CodebookError::Mean(error) => put(0, [0, 0, 0, 0], [error, 0.0], whole, real),
-        CodebookError::Refused(refusal) => put_refusal(refusal, whole, real),
-    }
+    put_answer(answer, whole, real)
 }

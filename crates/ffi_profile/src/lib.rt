@@ -10,6 +10,7 @@ ghost use Rattle.ffi_profile.specs.Profiles.{profile_from, fields_of};
 use profile::FibQuantProfile;
 
 // The profile of these fields.
+// Kept: they cross one by one, since a C function takes no Rust enums; inside they are one struct.
 pub fn profile_from(
     ambient_dim: u32,
     block_dim: u32,
@@ -52,29 +53,24 @@ pub fn profile_from(
     }
 }
 
-// The fields that are no floats.
+// The fields that are no floats, a choice by its number.
 pub fn fields_of(profile: FibQuantProfile) -> [u64; 14]
     ensures { result ≡ fields_of profile }
 {
-    let norm_format = profile.norm_format;
-    let source_mode = profile.source_mode;
-    let radius_method = profile.radius_method;
-    let direction_method = profile.direction_method;
-    let empty_cell_policy = profile.empty_cell_policy;
     [
         profile.ambient_dim as u64,
         profile.block_dim as u64,
         profile.codebook_size as u64,
         profile.wire_index_bits as u64,
-        choices::norm_format_number(norm_format),
+        profile.norm_format as u64,
         profile.rotation_seed,
         profile.codebook_seed,
-        choices::source_mode_number(source_mode),
-        choices::radius_method_number(radius_method),
-        choices::direction_method_number(direction_method),
+        profile.source_mode as u64,
+        profile.radius_method as u64,
+        profile.direction_method as u64,
         profile.lloyd_restarts as u64,
         profile.lloyd_iterations as u64,
         profile.training_samples as u64,
-        choices::policy_number(empty_cell_policy),
+        profile.empty_cell_policy as u64,
     ]
 }

@@ -1,10 +1,8 @@
 -- What an update is told as the host hands it in, and a refinement's report as it hands it in and gets it back.
 -- Definitions only.
-use Rattle.std.specs.Prelude.{ℕ, cond, List, [], ◌∷◌, eqb, Float}
+use Rattle.std.specs.Prelude.{ℕ, cond, List, [], ◌∷◌, eqb, Float, Option, None, Some}
 use Rattle.error.specs.Numbers.{Value, real, Outcome, completed, refused}
 use Rattle.lloyd_update.specs.declared.UpdateTerms.{UpdateTerms}
-use Rattle.lloyd_refine.specs.declared.Winner.{Winner}
-use Rattle.lloyd_refine.specs.declared.Winner.TheVariants.{StartKept, Restart}
 use Rattle.lloyd_refine.specs.declared.LloydReport.{LloydReport}
 use Rattle.ffi_profile.specs.Choices.{policy_at}
 
@@ -19,22 +17,22 @@ terms_from n k policy_number restart iteration = record {
 }
 
 -- whether a restart won
-abbrev pub won_of : Winner → ℕ
-won_of StartKept = 0
-won_of (Restart r) = 1
+abbrev pub won_of : Option ℕ → ℕ
+won_of None = 0
+won_of (Some r) = 1
 
 -- its number, and 0 where the start was kept, as the Rust's best_restart has it
-abbrev pub number_of : Winner → ℕ
-number_of StartKept = 0
-number_of (Restart r) = r
+abbrev pub number_of : Option ℕ → ℕ
+number_of None = 0
+number_of (Some r) = r
 
 -- the winner of these two: the number is not read where the start was kept, and what is neither 0 nor 1 is a restart,
 -- which can be refused
-abbrev pub winner_from : (won number : ℕ) → Winner
-winner_from won number = cond (eqb won 0) StartKept (Restart number)
+abbrev pub winner_from : (won number : ℕ) → Option ℕ
+winner_from won number = cond (eqb won 0) None (Some number)
 
 -- the report of these members
-abbrev pub report_from : (restarts iterations samples : ℕ) (initial best : Float) (winner : Winner)
+abbrev pub report_from : (restarts iterations samples : ℕ) (initial best : Float) (winner : Option ℕ)
     (repaired used seed : ℕ) → LloydReport
 report_from restarts iterations samples initial best winner repaired used seed = record {
   restarts = restarts;

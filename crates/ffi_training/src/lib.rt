@@ -2,22 +2,23 @@
 #![tactic(auto)]
 
 ghost use Rattle.std.specs.Prelude.{◌≡◌, length};
-ghost use Rattle.error.specs.Numbers.{completed, and_then};
+ghost use Rattle.error.specs.Numbers.{completed, outcome, and_then};
 ghost use Rattle.ieee.specs.Sum.{plus_zero};
 ghost use Rattle.lloyd_update.specs.Alone.{update_alone, codebook_after, work_after, slots_after};
-ghost use Rattle.lloyd_update.specs.Progress.{call_of, updated_of};
+ghost use Rattle.lloyd_update.specs.Progress.{call_of};
 ghost use Rattle.lloyd_refine.specs.Refine.{refinement, codewords_after};
 ghost use Rattle.lloyd_refine.specs.Refine as Refine;
-ghost use Rattle.lloyd_refine.specs.Report.{refinement_of, report_of, report_test};
+ghost use Rattle.lloyd_refine.specs.Report.{report_of, report_test};
 ghost use Rattle.lloyd_refine.specs.Standing.{job_of};
 ghost use Rattle.ffi_profile.specs.Profiles.{profile_from};
 ghost use Rattle.ffi_crossing.specs.Crossing.{found, crossed, none, one_whole};
-ghost use Rattle.ffi_training.specs.Training.{terms_from, winner_from, report_from, won_of, number_of, errors_in, report_after};
+ghost use Rattle.ffi_training.specs.Training.{terms_from, winner_from, report_from, errors_in, report_after};
 
-use ffi_crossing::{put, put_checked, put_refusal};
+use error::Refusal;
+use ffi_crossing::{put, put_answer, put_refusal};
 use lloyd_events::LloydRepairEvent;
-use lloyd_refine::{LloydReport, Refinement, Winner};
-use lloyd_update::{UpdateTerms, Updated};
+use lloyd_refine::LloydReport;
+use lloyd_update::UpdateTerms;
 
 // The terms of an update.
 fn terms(
@@ -35,16 +36,6 @@ fn terms(
         policy: ffi_profile::choices::policy_at(policy),
         restart,
         iteration,
-    }
-}
-
-// The answer of an update: how many repairs in whole[0].
-fn put_updated(answer: Updated, whole: &mut [u64; 4], real: &mut [f64; 2]) -> u32
-    ensures { found result whole.new real.new ≡ crossed one_whole (updated_of answer) }
-{
-    match answer {
-        Updated::Repairs(repairs) => put(0, [repairs as u64, 0, 0, 0], [0.0, 0.0], whole, real),
-        Updated::Refused(refusal) => put_refusal(refusal, whole, real),
     }
 }
 
@@ -77,72 +68,42 @@ pub extern "C" fn fib_update(
 {
     let t = terms(codebook_size, block_dim, policy, restart, iteration);
     let answer = update::update_centroids(codebook, samples, assignments, work, counts, events, t);
-    put_updated(answer, whole, real)
-}
-
-// Whether a restart won: 1, or 0 where the start was kept.
-fn won(winner: Winner) -> u64
-    ensures { result ≡ won_of winner }
-{
-    match winner {
-        Winner::StartKept => 0,
-        Winner::Restart(_) => 1,
-    }
-}
-
-// The number of the restart that won, 0 where the start was kept.
-fn number(winner: Winner) -> u64
-    ensures { result ≡ number_of winner }
-{
-    match winner {
-        Winner::StartKept => 0,
-        Winner::Restart(restart) => restart as u64,
-    }
+    put_answer(answer, whole, real)
 }
 
 // The winner of these two.
-fn winner_from(won: u8, number: u32) -> Winner
+fn winner_from(won: u8, number: u32) -> Option<u32>
     ensures { result ≡ winner_from won number }
 {
-    if won == 0 {
-        return Winner::StartKept;
-    }
-    Winner::Restart(number)
+    if won == 0 { None } else { Some(number) }
 }
 
 // The answer of a refinement: its two errors in `real`, the report's
 // other members in `report`, which a refusal leaves as it was.
 fn put_refined(
-    answer: Refinement,
+    answer: Result<LloydReport, Refusal>,
     report: &mut [u64; 8],
     whole: &mut [u64; 4],
     real: &mut [f64; 2],
 ) -> u32
-    ensures real_after { found result whole.new real.new ≡ crossed errors_in (refinement_of answer) }
-    ensures report_after { report.new ≡ report_after (refinement_of answer) report.old }
+    ensures real_after { found result whole.new real.new ≡ crossed errors_in (outcome answer) }
+    ensures report_after { report.new ≡ report_after (outcome answer) report.old }
 {
     match answer {
-        Refinement::Report(found) => {
-            let winner = found.best_restart;
+        Ok(found) => {
             *report = [
                 found.restarts as u64,
                 found.iterations as u64,
                 found.training_samples as u64,
-                won(winner),
-                number(winner),
+                found.best_restart.is_some() as u64,
+                found.best_restart.unwrap_or(0) as u64,
                 found.empty_cells_repaired as u64,
                 found.events_used as u64,
                 found.seed,
             ];
-            put(
-                0,
-                [0, 0, 0, 0],
-                [found.init_mse, found.best_mse],
-                whole,
-                real,
-            )
+            put(0, [0; 4], [found.init_mse, found.best_mse], whole, real)
         }
-        Refinement::Refused(refusal) => put_refusal(refusal, whole, real),
+        Err(refusal) => put_refusal(refusal, whole, real),
     }
 }
 
@@ -300,5 +261,5 @@ pub extern "C" fn fib_validate_report(
         seed,
     };
     let verdict = lloyd_refine::validate_against_profile(report, report_schema, profile);
-    put_checked(verdict, whole, real)
+    put_answer(verdict, whole, real)
 }

@@ -1,14 +1,13 @@
--- `ffi_profile::fields_of` meets its contract: each field at its place, a choice by its number. Assumes nothing.
-use native.Mathlib.Omega.{arith}
+-- `ffi_profile::fields_of` meets its contract: each choice by its number. Assumes nothing.
+use Rattle.std.proofs.Common.{◌≡◌, ℕ, List, [], ◌∷◌, rules, refl}
 use Rattle.ffi_profile.specs.Profiles.{fields_of}
 use Rattle.ffi_profile.proofs.fields_of.Goals as goal
 
-pub overflow_cast-result-6 : goal.overflow_cast-result-6
-overflow_cast-result-6 c = record { fits = omega (arith, c.struct_known-6-1.given) }
-
-pub overflow_cast-result-7 : goal.overflow_cast-result-7
-overflow_cast-result-7 c = record { fits = omega (arith, c.struct_known-7-1.given) }
+-- the fields are the same where the five choices are
+by_choices : {n m s t r q d e p o : ℕ} (a b c w x y g h i : ℕ) → n ≡ m → s ≡ t → r ≡ q → d ≡ e → p ≡ o
+    → ◌≡◌ {A = List ℕ} (a ∷ b ∷ c ∷ w ∷ n ∷ x ∷ y ∷ s ∷ r ∷ d ∷ g ∷ h ∷ i ∷ p ∷ []) (a ∷ b ∷ c ∷ w ∷ m ∷ x ∷ y ∷ t ∷ q ∷ e ∷ g ∷ h ∷ i ∷ o ∷ [])
+by_choices a b c w x y g h i k l j z u = rw (k, l, j, z, u) refl
 
 pub returns : goal.returns
 unfolding fields_of
-returns c = rw (c.policy_number.ensures, c.direction_method_number.ensures, c.radius_method_number.ensures, c.source_mode_number.ensures, c.norm_format_number.ensures)
+returns c = by_choices _ _ _ _ _ _ _ _ _ (search rules) (search rules) (search rules) (search rules) (search rules)

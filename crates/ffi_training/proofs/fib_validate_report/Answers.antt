@@ -6,4 +6,4 @@ use Rattle.ffi_training.proofs.fib_validate_report.Goals as goal
 pub returns : goal.returns
 returns c =
     let v = c in
-    c.put_checked.ensures ∙ ap (crossed none) (rw (v.profile_from-profile.ensures, v.winner_from.ensures) at v.validate_against_profile-verdict.ensures)
+    c.put_answer.ensures ∙ ap (crossed none) (rw (v.profile_from-profile.ensures, v.winner_from.ensures) at v.validate_against_profile-verdict.ensures)

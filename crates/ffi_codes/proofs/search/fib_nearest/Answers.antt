@@ -1,19 +1,21 @@
 -- `ffi_codes::search::fib_nearest` meets its contract, by the two cases of the answer. Assumes nothing.
-use mathlib.Core.Path.{sym, ap, ◌∙◌}
+use mathlib.Core.Path.{◌≡◌, refl, ap, ◌∙◌}
+use mathlib.Core.Bool.{Bool, true, false, cond}
+use mir.Val.{bool_byte}
 use lib.Ieee.{of_bits}
-use Rattle.lloyd_alone.specs.Answers.{nearest_of}
 use Rattle.ffi_crossing.specs.Crossing.{crossed, none, whole_values, real_values}
 use Rattle.ffi_codes.specs.Search.{found_in}
 use Rattle.ffi_crossing.proofs.CrossingLaws.{same_refusal}
 use Rattle.ffi_codes.proofs.search.fib_nearest.Goals as goal
 
-pub returns-in-Nearest : goal.returns-in-Nearest
-unfolding whole_values real_values of_bits
-returns-in-Nearest c =
-    let q = c in
-    let e = sym (ap nearest_of q.in-Nearest.is) ∙ q.nearest_index-answer.ensures in
-    c.put.ensures ∙ rw c.number_of-tied.ensures (ap (crossed found_in) e)
+-- a mark as a number
+mark : (b : Bool) → bool_byte b ≡ cond b 1 0
+mark true = refl
+mark false = refl
 
-pub returns-in-Refused : goal.returns-in-Refused
-returns-in-Refused c =
-    c.put_refusal.ensures ∙ same_refusal none found_in c.in-Refused.refusal ∙ ap (crossed found_in) (sym (ap nearest_of c.in-Refused.is) ∙ c.nearest_index-answer.ensures)
+pub returns-in-Ok : goal.returns-in-Ok
+unfolding whole_values real_values of_bits
+returns-in-Ok c = c.put.ensures ∙ rw (mark c.in-Ok.marked.tied) (ap (crossed found_in) c.in-Ok.ensures)
+
+pub returns-in-Err : goal.returns-in-Err
+returns-in-Err c = c.put_refusal.ensures ∙ same_refusal none found_in c.in-Err.refusal ∙ ap (crossed found_in) c.in-Err.ensures

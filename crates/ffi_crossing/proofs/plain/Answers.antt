@@ -1,8 +1,0 @@
--- `ffi_crossing::plain` meets its contract. Assumes nothing.
-use mathlib.Core.Path.{refl}
-use lib.Ieee.{of_bits}
-use Rattle.ffi_crossing.proofs.plain.Goals as goal
-
-pub returns : goal.returns
-unfolding of_bits
-returns c = refl

@@ -1,9 +1,0 @@
--- `ffi_profile::choices::policy_at` meets its contract: each answer follows from the tests on its way. Assumes nothing.
-use borrow.Author.Tests.{eq-eqb, ne_eqb}
-use Rattle.ffi_profile.proofs.choices.policy_at.Goals as goal
-
-pub returns-then-number-eq0 : goal.returns-then-number-eq0
-returns-then-number-eq0 c = simp (eq-eqb _ _ c.if-number-eq0.true)
-
-pub returns : goal.returns
-returns c = simp (ne_eqb _ _ c.if-number-eq0.false)
