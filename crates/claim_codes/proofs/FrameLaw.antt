@@ -1,4 +1,5 @@
 -- A frame that encoding is completed with, read back from its bytes: its parts, its indices, its norm. Assumes nothing.
+use Rattle.std.specs.Prelude.{Option, None, Some}
 use mathlib.Core.Path.{◌≡◌, refl, sym, ap, ◌∙◌, subst}
 use Prim.Native.Nat.{ℕ, ◌+◌, ◌-◌, ◌*◌, ◌/◌, ◌%◌, ◌≤◌, ◌<◌}
 use native.Mathlib.Nat.{lt_of_le_of_lt, div-le_self}
@@ -14,8 +15,6 @@ use Rattle.error.specs.Numbers.{completed, whole}
 use Rattle.error.proofs.Outcomes.{never, completed_same, passed, then_completed}
 use Rattle.error.proofs.Refusals.{also_first, also_next}
 use Rattle.ieee.specs.Sum.{plus_zero}
-use Rattle.slices.specs.declared.First.{First}
-use Rattle.slices.specs.declared.First.TheVariants.{Nowhere, At}
 use Rattle.slices.specs.First.{first_where}
 use Rattle.slices.proofs.FirstLaw.{nowhere, all_finite}
 use Rattle.narrow.specs.Format.{unpacked}
@@ -49,9 +48,9 @@ no_padding xs w =
     (λ j l. let e = length_packed xs w in packed_stream xs w (length xs * w + j) (omega arith) ∙ packed_after xs w (length xs * w + j) (omega arith))
 
 -- ---- what an encoding that is completed has shown
-finite_input_lem : (f : First) → finite_input f ≡ completed tt → f ≡ Nowhere
-finite_input_lem Nowhere e = refl
-finite_input_lem (At place) e = absurd (never 12 (whole place ∷ []) tt e)
+finite_input_lem : (f : Option ℕ) → finite_input f ≡ completed tt → f ≡ None
+finite_input_lem None e = refl
+finite_input_lem (Some place) e = absurd (never 12 (whole place ∷ []) tt e)
 
 pub record Normed (input : List Float) (bits : ℕ) : Type 0 where
   pub input_finite : (i : ℕ) → i < length input → T (finite (get_or input i nan))
@@ -132,7 +131,7 @@ module _ (c : EncodeCall) (frame : List ℕ) where
     all_below : below n (indices_of parts) ≡ completed tt
     all_below =
         let t : ℕ → Bool = λ i. not (ltb (get_or indices i 0) n) in
-        let none : first_where t (length indices) ≡ Nowhere =
+        let none : first_where t (length indices) ≡ None =
         nowhere t (length indices)
         (λ i l. let h : i < d / k = subst (λ (z : ℕ). i < z) count_is l in
         ap not (lt-ltb (get_or indices i 0) n (rw (get_d_indices (d / k) k n c.codewords (searched d c.matrix c.input (norm_of c.input)) i h) (index_below _ n some)))) in

@@ -1,5 +1,6 @@
 -- A call of update alone that passes its checks: every arithmetic result of it is finite, and the codebook that it
 -- leaves, where it is accepted, is at most 2 ^ 48 again. Assumes nothing.
+use Rattle.std.specs.Prelude.{None}
 use mathlib.Core.Path.{◌≡◌}
 use Prim.Native.Nat.{ℕ, ◌+◌, ◌*◌, ◌/◌, ◌^◌, ◌<◌}
 use mathlib.Core.List.{List}
@@ -8,7 +9,6 @@ use lib.ListN.{length, get_or}
 use lib.Ieee.{Float}
 use Rattle.error.specs.Numbers.{completed}
 use Rattle.ieee.specs.Bounds.{Upto}
-use Rattle.slices.specs.declared.First.TheVariants.{Nowhere}
 use Rattle.slices.specs.Limit.{first_outside}
 use Rattle.lloyd_search.specs.Distance.{row_of}
 use Rattle.lloyd_search.proofs.FiniteLaw.{Bounded}
@@ -21,7 +21,7 @@ use Rattle.claim_finite.specs.Finite.{FiniteUpdate}
 use Rattle.claim_finite.proofs.StepLaw.{step_finite, updated_kept}
 
 -- the rows of a list without a value outside
-rows_upto : (n k : ℕ) (xs : List Float) → first_outside update_limit xs ≡ Nowhere → length xs ≡ n * k → (i : ℕ) → i < n → Bounded 48 k (row_of k xs i)
+rows_upto : (n k : ℕ) (xs : List Float) → first_outside update_limit xs ≡ None → length xs ≡ n * k → (i : ℕ) → i < n → Bounded 48 k (row_of k xs i)
 rows_upto n k xs h e i l j m = all_within 48 xs h (i * k + j) (row_place i n k j (length xs) l m e)
 
 module _ (c : Call) (pass : update_checks c ≡ completed tt) where

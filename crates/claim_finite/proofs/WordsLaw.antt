@@ -1,4 +1,5 @@
 -- The repairs of an update: how far they move codewords, and that every result of them is finite. Assumes nothing.
+use Rattle.std.specs.Prelude.{Some}
 use mathlib.Core.Path.{◌≡◌, sym, subst}
 use mathlib.Core.Logic.{inl, inr}
 use Prim.Native.Nat.{ℕ, zero, suc, ◌+◌, ◌^◌, ◌≤◌, ◌<◌}
@@ -18,7 +19,6 @@ use Rattle.ieee.specs.Bounds.{AtMost, Upto, Holds}
 use Rattle.ieee.proofs.Bound.{add_upto, sub_upto, at_most_finite, upto_finite, upto_mono, never_passes}
 use Rattle.ieee.proofs.Value.{holds_true}
 use Rattle.root.proofs.Bounds.{sqrt_finite, sqrt_not_negative}
-use Rattle.slices.specs.declared.First.TheVariants.{At}
 use Rattle.lloyd_search.specs.Distance.{distance}
 use Rattle.lloyd_search.specs.Finite.{FiniteDistance}
 use Rattle.lloyd_search.proofs.FiniteLaw.{Bounded, difference_upto, finite_distance, distance_fits}
@@ -101,7 +101,7 @@ module _ (t : Terms) (far : ℕ → ℕ → Float) (st : Cells) (B : ℕ → ℕ
     Sofar e r = WordsUpto (B e) t.dim t.cells r.cells
 
     -- cell c is the donor of cell e
-    module _ (e c : ℕ) (r : Repaired) (l : e < t.cells) (came : repair_to t far st e ≡ completed r) (words : Sofar e r) (donor : donor_to r.cells.tally r.cells.distortion t.cells ≡ At c) where
+    module _ (e c : ℕ) (r : Repaired) (l : e < t.cells) (came : repair_to t far st e ≡ completed r) (words : Sofar e r) (donor : donor_to r.cells.tally r.cells.distortion t.cells ≡ Some c) where
       plenty : (c < t.cells) × (1 < r.cells.tally c)
       plenty = donor_plenty r.cells.tally r.cells.distortion t.cells c donor
 
@@ -153,7 +153,7 @@ module _ (t : Terms) (far : ℕ → ℕ → Float) (st : Cells) (B : ℕ → ℕ
       -- a turn that is completed has made the split
       made : (s : Repaired) → turn t far e r ≡ completed s → r.cells.tally e ≡ 0 → T (not (le donor_norm least_norm))
       made s h z =
-          let by : repair_by t far e r (At c) ≡ completed s = rw (eq-eqb (r.cells.tally e) 0 z, donor) at h in
+          let by : repair_by t far e r (Some c) ≡ completed s = rw (eq-eqb (r.cells.tally e) 0 z, donor) at h in
           subst (λ (b : Bool). T (not b)) (sym (passed (le donor_norm least_norm) 16 (whole c ∷ []) _ s by).0) tt
 
     words_turn : (e : ℕ) (r s : Repaired) → e < t.cells → repair_to t far st e ≡ completed r → Sofar e r → turn t far e r ≡ completed s → Sofar (suc e) s

@@ -2,13 +2,12 @@
 -- says it of a call of update alone; proofs/UpdateLaw.antt proves it of every call that passes its checks.
 -- (A comparison has no float for a result; the -1 and the -infinity
 -- from which searches start are constants.) Definitions only.
-use Rattle.std.specs.Prelude.{◌≡◌, ℕ, ◌/◌, ◌≤◌, ◌<◌, not, T, pos, length, get_or, Float}
+use Rattle.std.specs.Prelude.{◌≡◌, ℕ, ◌/◌, ◌≤◌, ◌<◌, not, T, pos, length, get_or, Float, Some}
 use Rattle.std.specs.Float.{binary64}
 use Rattle.std.specs.Float.Ieee.{add, sub, div, le, of_int}
 use Rattle.std.specs.Float.Ieee.Scale.{finite}
 use Rattle.error.specs.Numbers.{completed}
 use Rattle.ieee.specs.Bounds.{Upto}
-use Rattle.slices.specs.declared.First.TheVariants.{At}
 use Rattle.lloyd_search.specs.Distance.{row_of}
 use Rattle.lloyd_search.specs.Finite.{FiniteDistance}
 use Rattle.lloyd_cells.specs.Cells.{count_to, cell_sum}
@@ -58,7 +57,7 @@ pub record FiniteRepair (k : ℕ) (far : ℕ → ℕ → Float) (r : Repaired) (
 abbrev pub FiniteRepairs : Terms → (ℕ → ℕ → Float) → Cells → Type 0
 FiniteRepairs t far start =
     (e c : ℕ) (r : Repaired) → e < t.cells → repair_to t far start e ≡ completed r → r.cells.tally e ≡ 0
-    → donor_to r.cells.tally r.cells.distortion t.cells ≡ At c → FiniteRepair t.dim far r c
+    → donor_to r.cells.tally r.cells.distortion t.cells ≡ Some c → FiniteRepair t.dim far r c
 
 -- ---- an update, in a refinement or alone
 pub record FiniteStep (t : Terms) (S : ℕ) (x : ℕ → ℕ → Float) (a : ℕ → ℕ) (old : ℕ → ℕ → Float) : Type 0 where

@@ -1,5 +1,6 @@
 -- The best codebook of each number of restarts has n * k values
 -- of at most 2 ^ 48, and its error is finite. Assumes nothing.
+use Rattle.std.specs.Prelude.{Some}
 use mathlib.Core.Path.{◌≡◌, subst}
 use Prim.Native.Nat.{ℕ, zero, suc, ◌≤◌}
 use native.Mathlib.Nat.{le_of_lt}
@@ -10,7 +11,6 @@ use lib.Ieee.{Float, lt}
 use lib.Ieee.Scale.{finite}
 use Rattle.error.specs.Numbers.{completed}
 use Rattle.error.proofs.Outcomes.{completed_same, then_completed}
-use Rattle.lloyd_refine.specs.declared.Winner.TheVariants.{Restart}
 use Rattle.lloyd_refine.specs.Refine.{Job, restarts_of, iterations_of, Trained, rounds_to, error_of, Best, trained_from, after_restart, restart_on, restarts_to}
 use Rattle.lloyd_refine.proofs.CheckLaw.{Passed}
 use Rattle.claim_refinement.proofs.StandLaw.{initial-within}
@@ -32,7 +32,7 @@ module _ (j : Job) (pass : Passed j) where
   either r b t h k = go (lt (error_of j t.codebook) b.error)
     where
       go : (q : Bool) → TameBest (cond q
-          (record { codebook = t.codebook; error = error_of j t.codebook; winner = Restart r; events = t.events })
+          (record { codebook = t.codebook; error = error_of j t.codebook; winner = Some r; events = t.events })
           (record { codebook = b.codebook; error = b.error; winner = b.winner; events = t.events }))
       go true = (k, error_is_finite t.codebook k)
       go false = h

@@ -1,4 +1,5 @@
 -- Errors are finite, and the report of an accepted refinement passes its own test. Assumes nothing.
+use Rattle.std.specs.Prelude.{Option, None, Some}
 use mathlib.Core.Path.{◌≡◌, refl}
 use Prim.Native.Nat.{ℕ, suc, ◌<◌}
 use native.Mathlib.Nat.{le_refl}
@@ -12,8 +13,6 @@ use borrow.Author.Tests.{eq-eqb}
 use Rattle.error.specs.Numbers.{completed}
 use Rattle.error.proofs.Outcomes.{then_completed}
 use Rattle.profile.proofs.Bytes.{equal_same}
-use Rattle.lloyd_refine.specs.declared.Winner.{Winner}
-use Rattle.lloyd_refine.specs.declared.Winner.TheVariants.{StartKept, Restart}
 use Rattle.lloyd_refine.specs.Refine.{Job, restarts_of, refine_checks, error_of, Best, refine_of, refinement}
 use Rattle.lloyd_refine.specs.Report.{winner_below, report_schema, report_test}
 use Rattle.lloyd_refine.proofs.CheckLaw.{checks_passed}
@@ -30,9 +29,9 @@ same : (n : ℕ) → eqb n n ≡ true
 same n = eq-eqb n n refl
 
 -- a winner that is one of the candidates passes the test
-one_below : (restarts : ℕ) (w : Winner) → place_of w < suc restarts → winner_below restarts w ≡ true
-one_below restarts StartKept l = refl
-one_below restarts (Restart r) l = is_true (ltb r restarts) (lt→ltb r restarts (omega arith))
+one_below : (restarts : ℕ) (w : (Option ℕ)) → place_of w < suc restarts → winner_below restarts w ≡ true
+one_below restarts None l = refl
+one_below restarts (Some r) l = is_true (ltb r restarts) (lt→ltb r restarts (omega arith))
 
 module _ (j : Job) (b : Best) where
   report : T (finite (error_of j j.initial)) → T (finite b.error) → winner_below (restarts_of j) b.winner ≡ true → FiniteReport j b

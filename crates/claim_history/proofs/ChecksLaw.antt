@@ -1,6 +1,7 @@
 -- What an update's checks leave once they have passed: an assignment
 -- for each sample, all of them cells; and that no check answers 15.
 -- Assumes nothing.
+use Rattle.std.specs.Prelude.{Option, None, Some}
 use mathlib.Core.Path.{◌≡◌, sym}
 use Prim.Native.Nat.{ℕ, ◌+◌, ◌*◌, ◌/◌, ◌<◌}
 use native.Mathlib.Omega.{arith}
@@ -11,8 +12,6 @@ use lib.Ieee.Fits.{eq→eqb}
 use lib.ListN.{length, get_or}
 use Rattle.error.specs.Numbers.{Value, Outcome, completed, refused}
 use Rattle.error.proofs.Outcomes.{never, refused_later}
-use Rattle.slices.specs.declared.First.{First}
-use Rattle.slices.specs.declared.First.TheVariants.{Nowhere, At}
 use Rattle.slices.specs.First.{first_where}
 use Rattle.slices.specs.Limit.{first_outside, bounded}
 use Rattle.lloyd_search.specs.Shape.{codebook_shaped, samples_shaped}
@@ -30,13 +29,13 @@ module _ {A : Type 0} where
   pub never_cond : (b : Bool) (n : ℕ) (us : List Value) (rest : Outcome A) → T (not (eqb n 15)) → Never rest → Never (cond b (refused n us) rest)
   never_cond b n us rest o k vs h = k vs (refused_later b n us rest 15 vs (λ e. T_not (eqb n 15) o (eq→eqb e)) h)
 
-  pub never_bounded : (slice : ℕ) (f : First) (rest : Outcome A) → Never rest → Never (bounded slice f rest)
-  never_bounded slice Nowhere rest k vs h = k vs h
-  never_bounded slice (At i) rest k vs h = let z : ◌≡◌ {A = ℕ} 18 15 = cc in omega arith
+  pub never_bounded : (slice : ℕ) (f : Option ℕ) (rest : Outcome A) → Never rest → Never (bounded slice f rest)
+  never_bounded slice None rest k vs h = k vs h
+  never_bounded slice (Some i) rest k vs h = let z : ◌≡◌ {A = ℕ} 18 15 = cc in omega arith
 
-never_assigned : (cells : List ℕ) (n : ℕ) (f : First) → Never (only_cells cells n f)
-never_assigned cells n Nowhere vs h = never_done tt vs h
-never_assigned cells n (At i) vs h = let z : ◌≡◌ {A = ℕ} 11 15 = cc in omega arith
+never_assigned : (cells : List ℕ) (n : ℕ) (f : Option ℕ) → Never (only_cells cells n f)
+never_assigned cells n None vs h = never_done tt vs h
+never_assigned cells n (Some i) vs h = let z : ◌≡◌ {A = ℕ} 11 15 = cc in omega arith
 
 -- ---- all the checks
 module _ (c : Call) where

@@ -1,6 +1,7 @@
 -- A round of a refinement, called as an update alone with the codebook
 -- that stands before it, passes update's checks and comes to the same.
 -- Assumes nothing.
+use Rattle.std.specs.Prelude.{Option, None, Some}
 use mathlib.Core.Path.{◌≡◌, refl, sym, ap, ◌∙◌}
 use Prim.Native.Nat.{ℕ, zero, suc, ◌+◌, ◌-◌, ◌*◌, ◌/◌, ◌%◌, ◌≤◌}
 use native.Mathlib.Nat.{mul-mod_left, div-eq_of_eq-mul_left}
@@ -13,8 +14,6 @@ use lib.Ieee.{Float, le}
 use borrow.Author.Tests.{le-leb, lt-leb, eq-eqb}
 use Rattle.error.specs.Numbers.{Outcome, completed, refused, and_then, whole}
 use Rattle.error.proofs.Outcomes.{passed, then_completed}
-use Rattle.slices.specs.declared.First.{First}
-use Rattle.slices.specs.declared.First.TheVariants.{Nowhere, At}
 use Rattle.slices.specs.First.{first_where}
 use Rattle.slices.specs.Limit.{first_outside}
 use Rattle.slices.proofs.FirstLaw.{nowhere}
@@ -41,9 +40,9 @@ module _ (t : Terms) (m : ℕ) (far : ℕ → ℕ → Float) where
   showing = record { dim = t.dim; cells = t.cells; restart = t.restart; iteration = t.iteration; free = t.free; shown = m }
 
   module _ (e : ℕ) (r s : Repaired) where
-    repair_shown : (d : First) → repair_by t far e r d ≡ completed s → repair_by showing far e r d ≡ completed s
-    repair_shown Nowhere h = h
-    repair_shown (At c) h = go (le (residual_norm t.dim (far c) (r.cells.word c)) least_norm) (leb t.free (length r.events)) h
+    repair_shown : (d : Option ℕ) → repair_by t far e r d ≡ completed s → repair_by showing far e r d ≡ completed s
+    repair_shown None h = h
+    repair_shown (Some c) h = go (le (residual_norm t.dim (far c) (r.cells.word c)) least_norm) (leb t.free (length r.events)) h
       where
         go : (a b : Bool) → cond a (refused 16 (whole c ∷ [])) (cond b (refused 19 (whole t.shown ∷ [])) (completed (split_by t far e r c))) ≡ completed s
             → cond a (refused 16 (whole c ∷ [])) (cond b (refused 19 (whole m ∷ [])) (completed (split_by t far e r c))) ≡ completed s
@@ -77,12 +76,12 @@ updated_shown t m policy S x a old r h =
     rw p.0 (repairs_shown t m far st t.cells r p.1)
 
 -- ---- the checks
-all_cells : (k n S : ℕ) (samples : List Float) → 1 ≤ n → (codebook : List Float) → first_where (λ s. leb n (get_or (nearest_cells k n S samples codebook) s 0)) (length (nearest_cells k n S samples codebook)) ≡ Nowhere
+all_cells : (k n S : ℕ) (samples : List Float) → 1 ≤ n → (codebook : List Float) → first_where (λ s. leb n (get_or (nearest_cells k n S samples codebook) s 0)) (length (nearest_cells k n S samples codebook)) ≡ None
 all_cells k n S samples some codebook =
     let cells = nearest_cells k n S samples codebook in
     nowhere (λ s. leb n (get_or cells s 0)) (length cells) (λ s m. lt-leb n (get_or cells s 0) (cell_below k n S samples codebook some s (rw (length-tabulate S _) at m)))
 
-module _ (j : Job) (pass : Passed j) (r i : ℕ) (t : Trained) (size : length t.codebook ≡ size_of j * dim_of j) (tame : first_outside update_limit t.codebook ≡ Nowhere) where
+module _ (j : Job) (pass : Passed j) (r i : ℕ) (t : Trained) (size : length t.codebook ≡ size_of j * dim_of j) (tame : first_outside update_limit t.codebook ≡ None) where
   abbrev pub round_call : Call
   round_call = call_with (round_request j r i t) t.codebook
 

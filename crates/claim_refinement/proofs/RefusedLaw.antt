@@ -1,5 +1,6 @@
 -- A refinement that is refused after its checks: the rounds before are a history, it came to a round, and update alone
 -- refuses that round too, by the same number. Assumes nothing.
+use Rattle.std.specs.Prelude.{Option, None, Some}
 use mathlib.Core.Path.{◌≡◌, refl, sym, ap, ◌∙◌, subst}
 use mathlib.Core.Logic.{◌⊎◌, inl, inr}
 use Prim.Native.Nat.{ℕ, zero, suc, ◌-◌, ◌≤◌, ◌<◌}
@@ -12,8 +13,6 @@ use lib.ListN.{length}
 use lib.Ieee.{Float, le}
 use Rattle.error.specs.Numbers.{Value, Outcome, completed, refused, and_then, whole}
 use Rattle.error.proofs.Outcomes.{never, then_refused, completed_same}
-use Rattle.slices.specs.declared.First.{First}
-use Rattle.slices.specs.declared.First.TheVariants.{Nowhere, At}
 use Rattle.profile.specs.declared.EmptyCellPolicy.{EmptyCellPolicy}
 use Rattle.lloyd_search.specs.Distance.{row_of}
 use Rattle.lloyd_cells.specs.Repair.{Cells, Terms, Repaired, donor_to, least_norm, residual_norm, repair_by, turn, repair_to}
@@ -44,9 +43,9 @@ stays s m n vs o f (inr (q, v, e)) = inr (q, v, ap (λ (x : Outcome Repaired). a
 
 module _ (t : Terms) (m : ℕ) (far : ℕ → ℕ → Float) (n : ℕ) (vs : List Value) where
   module _ (e : ℕ) (r : Repaired) where
-    repair_alike : (d : First) → repair_by t far e r d ≡ refused n vs → Alike t.shown m n vs (repair_by (showing t m far) far e r d)
-    repair_alike Nowhere h = let q : 15 ≡ n = cc in inl (inr (inl (sym q)), h)
-    repair_alike (At c) h = go (le (residual_norm t.dim (far c) (r.cells.word c)) least_norm) (leb t.free (length r.events)) h
+    repair_alike : (d : Option ℕ) → repair_by t far e r d ≡ refused n vs → Alike t.shown m n vs (repair_by (showing t m far) far e r d)
+    repair_alike None h = let q : 15 ≡ n = cc in inl (inr (inl (sym q)), h)
+    repair_alike (Some c) h = go (le (residual_norm t.dim (far c) (r.cells.word c)) least_norm) (leb t.free (length r.events)) h
       where
         go : (a b : Bool) → cond a (refused 16 (whole c ∷ [])) (cond b (refused 19 (whole t.shown ∷ [])) (completed (split_by t far e r c))) ≡ refused n vs
             → Alike t.shown m n vs (cond a (refused 16 (whole c ∷ [])) (cond b (refused 19 (whole m ∷ [])) (completed (split_by t far e r c))))

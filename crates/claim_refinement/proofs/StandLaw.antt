@@ -1,5 +1,6 @@
 -- Where a restart starts: the initial codebook and the rotated ones have n * k values of at most 2 ^ 48, and so have
 -- codewords that are bounded so. Each passes the check of update alone. Assumes nothing.
+use Rattle.std.specs.Prelude.{None}
 use mathlib.Core.Path.{◌≡◌, refl}
 use Prim.Native.Nat.{ℕ, ◌+◌, ◌-◌, ◌*◌, ◌/◌, ◌%◌, ◌^◌, ◌≤◌, ◌<◌}
 use native.Mathlib.Nat.{lt_of_le_of_lt, mod-lt, div-lt_iff_lt-mul, mul-le-mul_right}
@@ -14,7 +15,6 @@ use lib.Ieee.{Float, nan, binary64, mul}
 use borrow.Author.Tests.{eq-eqb, ne_eqb}
 use Rattle.ieee.specs.Bounds.{Upto}
 use Rattle.ieee.proofs.Bound.{mul_upto, sum_to_upto, upto_mono}
-use Rattle.slices.specs.declared.First.TheVariants.{Nowhere}
 use Rattle.slices.specs.Limit.{first_outside}
 use Rattle.slices.proofs.TabulateLaw.{length-tabulate, get_d_tabulate}
 use Rattle.rotation.specs.Apply.{applied_at}
@@ -28,11 +28,11 @@ use Rattle.lloyd_refine.specs.Refine.{Job, size_of, dim_of, restarts_of, matrix_
 use Rattle.lloyd_refine.proofs.CheckLaw.{Passed}
 use Rattle.lloyd_search.proofs.WithinLaw.{all_upto, wider}
 
-pub rows_bounded : (b n k : ℕ) (xs : List Float) → first_outside (power b) xs ≡ Nowhere → length xs ≡ n * k → (i : ℕ) → i < n → Bounded b k (row_of k xs i)
+pub rows_bounded : (b n k : ℕ) (xs : List Float) → first_outside (power b) xs ≡ None → length xs ≡ n * k → (i : ℕ) → i < n → Bounded b k (row_of k xs i)
 rows_bounded b n k xs h e i l c m = all_within b xs h (i * k + c) (row_place i n k c (length xs) l m e)
 
 -- n codewords of k coordinates, given by their coordinates
-pub words_within : (n k : ℕ) (word : ℕ → ℕ → Float) → 1 ≤ k → ((c i : ℕ) → c < n → i < k → Upto (word c i) (2 ^ 48)) → first_outside update_limit (words_of n k word) ≡ Nowhere
+pub words_within : (n k : ℕ) (word : ℕ → ℕ → Float) → 1 ≤ k → ((c i : ℕ) → c < n → i < k → Upto (word c i) (2 ^ 48)) → first_outside update_limit (words_of n k word) ≡ None
 words_within n k word some h = all_upto 48 (words_of n k word) (λ i l. at i (rw (length-tabulate (n * k) (λ m. word (m / k) (m % k))) at l))
   where
     at : (i : ℕ) → i < n * k → Upto (get_or (words_of n k word) i nan) (2 ^ 48)
@@ -51,10 +51,10 @@ module _ (j : Job) (pass : Passed j) where
   few_block : k ≤ 256
   few_block = pass.valid.shape.block_most
 
-  pub samples-within : first_outside update_limit j.samples ≡ Nowhere
+  pub samples-within : first_outside update_limit j.samples ≡ None
   samples-within = wider 20 48 j.samples (lit≤ tt) pass.samples-within
 
-  pub initial-within : first_outside update_limit j.initial ≡ Nowhere
+  pub initial-within : first_outside update_limit j.initial ≡ None
   initial-within = wider 20 48 j.initial (lit≤ tt) pass.initial-within
 
   -- ---- where a restart starts
@@ -86,8 +86,8 @@ module _ (j : Job) (pass : Passed j) where
         (lt_of_le_of_lt few_block (lit< tt)) (lit≤ tt))
         (mul-le-mul_right (2 ^ 40) few_block)
 
-    rotated_within : first_outside update_limit (rotated j r) ≡ Nowhere
+    rotated_within : first_outside update_limit (rotated j r) ≡ None
     rotated_within = words_within n k (λ w row. applied_at k (matrix_of j r) (initial_word j w) row) some_block applied_upto
 
-  pub start_within : (r : ℕ) → r < restarts_of j → first_outside update_limit (start_of j r) ≡ Nowhere
+  pub start_within : (r : ℕ) → r < restarts_of j → first_outside update_limit (start_of j r) ≡ None
   start_within r l = elim (ℕ_discrete r 0) [ yes e ↦ rw (eq-eqb r 0 e) initial-within | no o ↦ rw (ne_eqb r 0 o) (rotated_within r l o) ]

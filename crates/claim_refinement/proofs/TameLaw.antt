@@ -1,4 +1,5 @@
 -- Every codebook that a refinement reaches has n * k values of at most 2 ^ 48, whatever comes later. Assumes nothing.
+use Rattle.std.specs.Prelude.{None}
 use mathlib.Core.Path.{◌≡◌, subst}
 use Prim.Native.Nat.{ℕ, zero, suc, ◌*◌, ◌≤◌, ◌<◌}
 use mathlib.Core.List.{List}
@@ -7,7 +8,6 @@ use lib.ListN.{length}
 use lib.Ieee.{Float}
 use Rattle.error.specs.Numbers.{completed}
 use Rattle.error.proofs.Outcomes.{completed_same, then_completed}
-use Rattle.slices.specs.declared.First.TheVariants.{Nowhere}
 use Rattle.slices.specs.Limit.{first_outside}
 use Rattle.slices.proofs.TabulateLaw.{length-tabulate}
 use Rattle.lloyd_search.specs.Distance.{row_of}
@@ -23,7 +23,7 @@ use Rattle.claim_refinement.proofs.StandLaw.{rows_bounded, words_within, samples
 
 -- n codewords of k coordinates, each value at most 2 ^ 48
 abbrev pub Tame : Job → List Float → Type 0
-Tame j codebook = (length codebook ≡ size_of j * dim_of j) × (first_outside update_limit codebook ≡ Nowhere)
+Tame j codebook = (length codebook ≡ size_of j * dim_of j) × (first_outside update_limit codebook ≡ None)
 
 module _ (j : Job) (pass : Passed j) where
   -- what a completed round leaves, from whatever codebook

@@ -1,5 +1,6 @@
 -- Which codebook an accepted refinement returns: of the start and the ends of its restarts the first of the least error.
 -- Assumes nothing.
+use Rattle.std.specs.Prelude.{Option, None, Some}
 use mathlib.Core.Path.{◌≡◌, refl, sym, ap, ◌∙◌, subst}
 use Prim.Native.Nat.{ℕ, zero, suc, ◌*◌, ◌≤◌, ◌<◌}
 use native.Mathlib.Nat.{le_refl, zero-lt-suc}
@@ -12,7 +13,6 @@ use lib.Ieee.{Float, inf, lt}
 use lib.Ieee.Scale.{finite}
 use Rattle.error.specs.Numbers.{completed}
 use Rattle.ieee.proofs.Order.{finite_lt_inf}
-use Rattle.slices.specs.declared.First.TheVariants.{Nowhere}
 use Rattle.slices.specs.Limit.{first_outside}
 use Rattle.lloyd_search.specs.declared.Found.{Found}
 use Rattle.lloyd_search.specs.Distance.{row_of}
@@ -21,8 +21,6 @@ use Rattle.lloyd_search.specs.Finite.{FiniteMean}
 use Rattle.lloyd_search.proofs.NearestLaw.{first_least_lem}
 use Rattle.lloyd_search.proofs.FiniteLaw.{finite_mean}
 use Rattle.lloyd_update.specs.Alone.{update_limit}
-use Rattle.lloyd_refine.specs.declared.Winner.{Winner}
-use Rattle.lloyd_refine.specs.declared.Winner.TheVariants.{Restart}
 use Rattle.lloyd_refine.specs.Refine.{Job, size_of, dim_of, count_of, restarts_of, iterations_of, error_of, Best, after_restart, restarts_to}
 use Rattle.lloyd_refine.specs.Report.{report_of}
 use Rattle.lloyd_refine.proofs.CheckLaw.{Passed}
@@ -34,7 +32,7 @@ use Rattle.claim_refinement.proofs.WinnerLaw.{Chosen, kept_none, none_kept, same
 
 module _ (j : Job) (pass : Passed j) where
   -- values of at most 2 ^ 48 have a finite mean error, with all that it is made of
-  pub error_finite : (codebook : List Float) → length codebook ≡ size_of j * dim_of j → first_outside update_limit codebook ≡ Nowhere → FiniteMean (dim_of j) (size_of j) (row_of (dim_of j) codebook) (row_of (dim_of j) j.samples) (count_of j)
+  pub error_finite : (codebook : List Float) → length codebook ≡ size_of j * dim_of j → first_outside update_limit codebook ≡ None → FiniteMean (dim_of j) (size_of j) (row_of (dim_of j) codebook) (row_of (dim_of j) j.samples) (count_of j)
   error_finite codebook e h =
       let p = pass.valid in
       let l = p.shape.book_least in
@@ -74,7 +72,7 @@ module _ (j : Job) (pass : Passed j) where
       where
         go : (q : Bool) → first_least errors (suc (suc r)) ≡ pick q (record { index = suc r; distance = errors (suc r) }) (found_of x)
             → Kept (suc r) (cond q
-            (record { codebook = (stand_at j r (iterations_of j)).codebook; error = errors (suc r); winner = Restart r; events = (stand_at j r (iterations_of j)).events })
+            (record { codebook = (stand_at j r (iterations_of j)).codebook; error = errors (suc r); winner = Some r; events = (stand_at j r (iterations_of j)).events })
             (record { codebook = x.codebook; error = x.error; winner = x.winner; events = (stand_at j r (iterations_of j)).events }))
         go true h = (h, refl, refl)
         go false h = (h, c, e)
@@ -102,6 +100,6 @@ module _ (j : Job) (pass : Passed j) where
           none_less = least.none_nearer;
           earlier_more = least.first;
           start_kept = (kept_none j (course_of j) b.winner chosen, none_kept j (course_of j) b.winner chosen);
-          errors_tell = (λ k. same ∙ ap (λ (w : Winner). errors (place_of w)) k, λ k. same_kept j (course_of j) b.winner chosen (sym same ∙ k));
+          errors_tell = (λ k. same ∙ ap (λ (w : (Option ℕ)). errors (place_of w)) k, λ k. same_kept j (course_of j) b.winner chosen (sym same ∙ k));
           restart_won = λ q. (won_first j (course_of j) b.winner chosen q, first_won j (course_of j) b.winner chosen q);
         }

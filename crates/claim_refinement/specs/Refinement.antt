@@ -4,7 +4,7 @@
 -- Document 01's terms: the start is candidate 0, the end of restart
 -- r is candidate r + 1; the error is measured before narrowing.
 -- Definitions only.
-use Rattle.std.specs.Prelude.{◌≡◌, ◌⊎◌, ◌↔◌, ℕ, zero, suc, ◌+◌, ◌-◌, ◌*◌, ◌<◌, ◌≤◌, not, List, [], ◌∷◌, T, length, get_or, take, drop, Float}
+use Rattle.std.specs.Prelude.{◌≡◌, ◌⊎◌, ◌↔◌, ℕ, zero, suc, ◌+◌, ◌-◌, ◌*◌, ◌<◌, ◌≤◌, not, List, [], ◌∷◌, T, length, get_or, take, drop, Float, Option, None, Some}
 use Rattle.std.specs.Float.{nan, binary64}
 use Rattle.std.specs.Float.Ieee.{mul, lt}
 use Rattle.std.specs.Float.Ieee.Scale.{finite}
@@ -17,8 +17,6 @@ use Rattle.lloyd_events.specs.declared.LloydRepairEvent.{LloydRepairEvent}
 use Rattle.lloyd_cells.specs.Repair.{Repaired}
 use Rattle.lloyd_round.specs.Round.{nearest_cells}
 use Rattle.lloyd_update.specs.Alone.{Call, update_checks, update_alone}
-use Rattle.lloyd_refine.specs.declared.Winner.{Winner}
-use Rattle.lloyd_refine.specs.declared.Winner.TheVariants.{StartKept, Restart}
 use Rattle.lloyd_refine.specs.declared.LloydReport.{LloydReport}
 use Rattle.lloyd_refine.specs.Refine.{Job, size_of, dim_of, count_of, restarts_of, iterations_of, Trained, round_of, after_round, rounds_to, start_of, error_of, Best, trained_from, restarts_to, refine_checks, refinement, narrowed, codewords_after, slots_after}
 use Rattle.lloyd_refine.specs.Report.{report_of}
@@ -63,9 +61,9 @@ candidate j c zero = j.initial
 candidate j c (suc r) = (c.stand r (iterations_of j)).codebook
 
 -- the place of the winner among them
-abbrev pub place_of : Winner → ℕ
-place_of StartKept = 0
-place_of (Restart r) = suc r
+abbrev pub place_of : Option ℕ → ℕ
+place_of None = 0
+place_of (Some r) = suc r
 
 -- the error of candidate p
 abbrev pub error_at : Job → Course → ℕ → Float
@@ -89,12 +87,12 @@ pub record Wins (j : Job) (c : Course) (returned : List Float) (report : LloydRe
   pub none_less : (p : ℕ) → p < suc (restarts_of j) → T (not (lt (error_at j c p) report.best_mse))
   pub earlier_more : (p : ℕ) → p < place_of report.best_restart → T (lt report.best_mse (error_at j c p))
   -- document 02's K6: the start was kept exactly where no restart's error is below its own
-  pub start_kept : (report.best_restart ≡ StartKept)
+  pub start_kept : (report.best_restart ≡ None)
       ↔ ((q : ℕ) → q < restarts_of j → T (not (lt (error_at j c (suc q)) report.init_mse)))
   -- the two errors tell it too: they are equal exactly there
-  pub errors_tell : (report.best_restart ≡ StartKept) ↔ (report.best_mse ≡ report.init_mse)
+  pub errors_tell : (report.best_restart ≡ None) ↔ (report.best_mse ≡ report.init_mse)
   -- restart q won exactly where it is the first of least error, below the start's
-  pub restart_won : (q : ℕ) → (report.best_restart ≡ Restart q) ↔ FirstOfLeast j c q
+  pub restart_won : (q : ℕ) → (report.best_restart ≡ Some q) ↔ FirstOfLeast j c q
 
 -- ---- how far a refinement comes
 -- t stands before round i of restart r, or at the restart's end where i is I: the earlier restarts and the earlier

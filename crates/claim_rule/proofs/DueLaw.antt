@@ -1,5 +1,6 @@
 -- A repair that is due: its donor is the last of largest distortion, its sample
 -- the first farthest, and the norm of its residual a number. Assumes nothing.
+use Rattle.std.specs.Prelude.{Some}
 use mathlib.Core.Path.{◌≡◌, sym, subst}
 use mathlib.Core.Logic.{inl, inr}
 use Prim.Native.Nat.{ℕ, ◌<◌}
@@ -14,7 +15,6 @@ use Rattle.ieee.specs.Sum.{plus_zero}
 use Rattle.ieee.specs.Bounds.{NotNegative}
 use Rattle.ieee.proofs.Order.{lt_or_not, eq_of_neither}
 use Rattle.profile.specs.declared.EmptyCellPolicy.TheVariants.{SplitHighestDistortion}
-use Rattle.slices.specs.declared.First.TheVariants.{At}
 use Rattle.lloyd_cells.specs.Cells.{Farthest, farthest}
 use Rattle.lloyd_cells.specs.Repair.{Repaired, donor_to, least_norm, residual_norm, repair_to, Tallied}
 use Rattle.lloyd_cells.proofs.CellsLaw.{first_farthest}
@@ -68,7 +68,7 @@ module _ (c : Call) (pass : update_checks c ≡ completed tt) where
         rw ((stands c e r came).distortion i)
         (finite_cond (takes_part r.events i) plus_zero ((start_cells c).distortion i) tt ((update_finite c pass).gathered.distortions i (samples_of c) m (le_refl (samples_of c))))
 
-    module _ (d : ℕ) (found : donor_to r.cells.tally r.cells.distortion c.size ≡ At d) where
+    module _ (d : ℕ) (found : donor_to r.cells.tally r.cells.distortion c.size ≡ Some d) where
       -- its tally never rose, so it was assigned samples
       some : 0 < assigned c d
       some = let p = (donor_plenty r.cells.tally r.cells.distortion c.size d found).1 in elim (tallied_upto before d) [ inl m ↦ omega arith | inr (z, m, o) ↦ absurd (omega arith) ]

@@ -1,5 +1,6 @@
 -- The events of the repairs, one after another: each tells a repair that was due, their empty cells rise, and each cell
 -- without a sample has its event. Assumes nothing.
+use Rattle.std.specs.Prelude.{Some}
 use mathlib.Core.Path.{◌≡◌, refl, sym, ap, ◌∙◌, subst}
 use mathlib.Core.Logic.{inl, inr}
 use Prim.Native.Nat.{ℕ, zero, suc, ◌<◌, ◌≤◌, zero-le}
@@ -13,7 +14,6 @@ use lib.Ieee.{binary64, round, le}
 use borrow.Author.Tests.{le-leb, lt-leb}
 use Rattle.error.specs.Numbers.{completed}
 use Rattle.error.proofs.Outcomes.{then_completed}
-use Rattle.slices.specs.declared.First.TheVariants.{At}
 use Rattle.lloyd_events.specs.declared.LloydRepairEvent.{LloydRepairEvent}
 use Rattle.lloyd_events.specs.Events.{zero_event}
 use Rattle.lloyd_cells.specs.Repair.{Repaired, epsilon, least_norm, residual_norm, event_of, turn, repair_to}
@@ -107,7 +107,7 @@ module _ (c : Call) (pass : update_checks c ≡ completed tt) (allowed : Open c)
 
   -- the turn of cell e, which is empty, came to s
   module _ (e : ℕ) (r s : Repaired) (l : e < c.size) (came : repair_to (terms_of c) (far_of c) (start_cells c) e ≡ completed r) (empty : r.cells.tally e ≡ 0) where
-    repair : (d : ℕ) → donor_in (terms_of c) r ≡ At d → le (norm (terms_of c) (far_of c) e r d) least_norm ≡ false → length r.events < c.slots → s ≡ split_by (terms_of c) (far_of c) e r d
+    repair : (d : ℕ) → donor_in (terms_of c) r ≡ Some d → le (norm (terms_of c) (far_of c) e r d) least_norm ≡ false → length r.events < c.slots → s ≡ split_by (terms_of c) (far_of c) e r d
         → Repair c (event_by e r d) r s
     repair d found wide slot is = record {
       within = l;

@@ -25,7 +25,7 @@ use Rattle.lloyd_update.specs.Progress.{samples_of, sample_of, cell_of, start_ce
 use Rattle.lloyd_update.proofs.RepairsLaw.{events_within}
 use Rattle.claim_rule.specs.Rule.{assigned, Cell, Accepted, NoDonor, NoDirection, SlotsUsed, Refused, Rule}
 use Rattle.claim_rule.proofs.MembersLaw.{counted}
-use Rattle.claim_rule.proofs.StandsLaw.{donor_in, None, Small, Used, by_refused}
+use Rattle.claim_rule.proofs.StandsLaw.{donor_in, Donorless, Small, Used, by_refused}
 use Rattle.claim_rule.proofs.DueLaw.{farthest_of, Open, donor, above}
 use Rattle.claim_rule.proofs.EventsLaw.{made, due}
 
@@ -60,11 +60,11 @@ module _ (c : Call) where
 
   -- a turn is refused for an empty cell only
   at-empty : (e : ℕ) (r : Repaired) (n : ℕ) (vs : List Value) → turn (terms_of c) (far_of c) e r ≡ refused n vs
-      → (r.cells.tally e ≡ 0) × (None (terms_of c) (far_of c) e r n vs ⊎ (Small (terms_of c) (far_of c) e r n vs ⊎ Used (terms_of c) (far_of c) e r n vs))
+      → (r.cells.tally e ≡ 0) × (Donorless (terms_of c) (far_of c) e r n vs ⊎ (Small (terms_of c) (far_of c) e r n vs ⊎ Used (terms_of c) (far_of c) e r n vs))
   at-empty e r n vs h = go (eqb (r.cells.tally e) 0) refl h
     where
       go : (b : Bool) → eqb (r.cells.tally e) 0 ≡ b → cond b (repair_by (terms_of c) (far_of c) e r (donor_in (terms_of c) r)) (completed r) ≡ refused n vs
-          → (r.cells.tally e ≡ 0) × (None (terms_of c) (far_of c) e r n vs ⊎ (Small (terms_of c) (far_of c) e r n vs ⊎ Used (terms_of c) (far_of c) e r n vs))
+          → (r.cells.tally e ≡ 0) × (Donorless (terms_of c) (far_of c) e r n vs ⊎ (Small (terms_of c) (far_of c) e r n vs ⊎ Used (terms_of c) (far_of c) e r n vs))
       go true q k = (eqb-true (r.cells.tally e) 0 q, by_refused (terms_of c) (far_of c) e r (donor_in (terms_of c) r) refl n vs k)
       go false q k = let z : ◌≡◌ {A = ℕ} 0 1 = cc in absurd (omega arith)
 
@@ -91,7 +91,7 @@ module _ (c : Call) where
         made c pass (allowed policy) c.size r (le_refl c.size) done
 
     module _ (ok : Open c) (n : ℕ) (vs : List Value) (e : ℕ) (r : Repaired) (l : e < c.size) (came : repairs e ≡ completed r) (empty : r.cells.tally e ≡ 0) where
-      no_donor : None (terms_of c) (far_of c) e r n vs → NoDonor c n vs
+      no_donor : Donorless (terms_of c) (far_of c) e r n vs → NoDonor c n vs
       no_donor (number, shown, nowhere) = record {
         number = number;
         cell = e;

@@ -1,5 +1,6 @@
 -- What stands when the cells below e have had their turn, and the repair
 -- that is due then: its donor, and what its turn comes to. Assumes nothing.
+use Rattle.std.specs.Prelude.{Option, None, Some}
 use mathlib.Core.Path.{◌≡◌, refl, sym, ap, ◌∙◌, subst}
 use mathlib.Core.Logic.{◌⊎◌, inl, inr}
 use Prim.Native.Nat.{ℕ, zero, suc, ◌<◌, ◌≤◌}
@@ -13,8 +14,6 @@ use borrow.Author.Tests.{leb-true, leb-false}
 use Rattle.error.specs.Numbers.{Value, completed, refused, whole}
 use Rattle.error.proofs.Outcomes.{passed, completed_same, then_completed}
 use Rattle.ieee.specs.Sum.{plus_zero}
-use Rattle.slices.specs.declared.First.{First}
-use Rattle.slices.specs.declared.First.TheVariants.{Nowhere, At}
 use Rattle.lloyd_events.specs.declared.LloydRepairEvent.{LloydRepairEvent}
 use Rattle.lloyd_cells.specs.Repair.{Terms, Repaired, donor_to, least_norm, residual_norm, event_of, repair_by, turn, repair_to}
 use Rattle.lloyd_cells.proofs.TallyLaw.{split_by, turn_completed}
@@ -81,37 +80,37 @@ module _ (c : Call) where
   }
 
 -- ---- what one repair comes to
-abbrev pub donor_in : Terms → Repaired → First
+abbrev pub donor_in : Terms → Repaired → Option ℕ
 donor_in t r = donor_to r.cells.tally r.cells.distortion t.cells
 
 module _ (t : Terms) (far : ℕ → ℕ → Float) (e : ℕ) (r : Repaired) where
   abbrev pub norm : ℕ → Float
   norm d = residual_norm t.dim (far d) (r.cells.word d)
 
-  pub by_completed : (f : First) → donor_in t r ≡ f → (s : Repaired) → repair_by t far e r f ≡ completed s
-      → (d : ℕ) × (donor_in t r ≡ At d) × (le (norm d) least_norm ≡ false) × (length r.events < t.free) × (s ≡ split_by t far e r d)
-  by_completed Nowhere q s h = let z : ◌≡◌ {A = ℕ} 0 1 = cc in absurd (omega arith)
-  by_completed (At d) q s h =
+  pub by_completed : (f : Option ℕ) → donor_in t r ≡ f → (s : Repaired) → repair_by t far e r f ≡ completed s
+      → (d : ℕ) × (donor_in t r ≡ Some d) × (le (norm d) least_norm ≡ false) × (length r.events < t.free) × (s ≡ split_by t far e r d)
+  by_completed None q s h = let z : ◌≡◌ {A = ℕ} 0 1 = cc in absurd (omega arith)
+  by_completed (Some d) q s h =
       let direction = passed (le (norm d) least_norm) 16 (whole d ∷ []) _ s h in
       let slot = passed (leb t.free (length r.events)) 19 (whole t.shown ∷ []) (completed (split_by t far e r d)) s direction.1 in
       (d, q, direction.0, leb-false t.free (length r.events) slot.0, sym (completed_same (split_by t far e r d) s slot.1))
 
   -- the reasons of a refusal
-  abbrev pub None : ℕ → List Value → Type 0
-  None n vs = (n ≡ 15) × (vs ≡ whole e ∷ []) × (donor_in t r ≡ Nowhere)
+  abbrev pub Donorless : ℕ → List Value → Type 0
+  Donorless n vs = (n ≡ 15) × (vs ≡ whole e ∷ []) × (donor_in t r ≡ None)
 
   abbrev pub Small : ℕ → List Value → Type 0
-  Small n vs = (d : ℕ) × (n ≡ 16) × (vs ≡ whole d ∷ []) × (donor_in t r ≡ At d) × (le (norm d) least_norm ≡ true)
+  Small n vs = (d : ℕ) × (n ≡ 16) × (vs ≡ whole d ∷ []) × (donor_in t r ≡ Some d) × (le (norm d) least_norm ≡ true)
 
   abbrev pub Used : ℕ → List Value → Type 0
-  Used n vs = (d : ℕ) × (n ≡ 19) × (vs ≡ whole t.shown ∷ []) × (donor_in t r ≡ At d) × (le (norm d) least_norm ≡ false) × (t.free ≤ length r.events)
+  Used n vs = (d : ℕ) × (n ≡ 19) × (vs ≡ whole t.shown ∷ []) × (donor_in t r ≡ Some d) × (le (norm d) least_norm ≡ false) × (t.free ≤ length r.events)
 
-  pub by_refused : (f : First) → donor_in t r ≡ f → (n : ℕ) (vs : List Value) → repair_by t far e r f ≡ refused n vs → None n vs ⊎ (Small n vs ⊎ Used n vs)
-  by_refused Nowhere q n vs h = let u : 15 ≡ n = cc in let v : whole e ∷ [] ≡ vs = cc in inl (sym u, sym v, q)
-  by_refused (At d) q n vs h = go (le (norm d) least_norm) (leb t.free (length r.events)) refl refl h
+  pub by_refused : (f : Option ℕ) → donor_in t r ≡ f → (n : ℕ) (vs : List Value) → repair_by t far e r f ≡ refused n vs → Donorless n vs ⊎ (Small n vs ⊎ Used n vs)
+  by_refused None q n vs h = let u : 15 ≡ n = cc in let v : whole e ∷ [] ≡ vs = cc in inl (sym u, sym v, q)
+  by_refused (Some d) q n vs h = go (le (norm d) least_norm) (leb t.free (length r.events)) refl refl h
     where
       go : (a b : Bool) → le (norm d) least_norm ≡ a → leb t.free (length r.events) ≡ b
-          → cond a (refused 16 (whole d ∷ [])) (cond b (refused 19 (whole t.shown ∷ [])) (completed (split_by t far e r d))) ≡ refused n vs → None n vs ⊎ (Small n vs ⊎ Used n vs)
+          → cond a (refused 16 (whole d ∷ [])) (cond b (refused 19 (whole t.shown ∷ [])) (completed (split_by t far e r d))) ≡ refused n vs → Donorless n vs ⊎ (Small n vs ⊎ Used n vs)
       go true b x y k = let u : 16 ≡ n = cc in let v : whole d ∷ [] ≡ vs = cc in inr (inl (d, sym u, sym v, q, x))
       go false true x y k = let u : 19 ≡ n = cc in let v : whole t.shown ∷ [] ≡ vs = cc in inr (inr (d, sym u, sym v, q, x, leb-true t.free (length r.events) y))
       go false false x y k = let z : ◌≡◌ {A = ℕ} 0 1 = cc in absurd (omega arith)
