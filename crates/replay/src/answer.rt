@@ -1,98 +1,93 @@
-// Answers: a refusal by its number and its values, 0 where a call was completed.
-use crate::reader;
-use crate::reader::Reader;
-use error::{Checked, Refusal};
+// Answers: what a call gave, or its refusal by number and values.
+use crate::reader::{Item, Malformed, Reader};
+use error::{Refusal, Slice};
 
-#[derive(Clone, Copy)]
-pub struct Row {
-    pub number: u64,
-    pub first: u64,
-    pub second: u64,
+#[derive(Clone, Copy, Debug, PartialEq)]
+pub struct Refused {
+    number: u8,
+    values: [u64; 2],
 }
 
-// An answer as it was recorded, and the reader after it.
-#[derive(Clone, Copy)]
-pub struct Recorded {
-    pub row: Row,
-    pub next: Reader,
-}
-
-// Whether a record's answer came out, and the reader after the record.
-#[derive(Clone, Copy)]
-pub struct Verdict {
-    pub same: bool,
-    pub next: Reader,
-}
-
-fn numbered(number: u64, first: u64, second: u64) -> Row {
-    Row {
-        number,
-        first,
-        second,
+impl From<Refusal> for Refused {
+    fn from(refusal: Refusal) -> Refused {
+        let (number, values) = match refusal {
+            Refusal::ZeroDimension => (1, [0, 0]),
+            Refusal::InvalidBlockDim {
+                ambient_dim,
+                block_dim,
+            } => (2, [ambient_dim, block_dim]),
+            Refusal::DimensionNotDivisible {
+                ambient_dim,
+                block_dim,
+            } => (3, [ambient_dim, block_dim]),
+            Refusal::InvalidCodebookSize(n) => (4, [n, 0]),
+            Refusal::ResourceLimitExceeded => (5, [0, 0]),
+            Refusal::SliceLength(slice) => (7, [slice as u64, 0]),
+            Refusal::CompactFrame(site) => (8, [site as u64, 0]),
+            Refusal::PackedIndices(site) => (9, [site as u64, 0]),
+            Refusal::IndexOutOfRange { index, bound } => {
+                (11, [u64::from(index), u64::from(bound)])
+            }
+            // No record has any other.
+            _ => (99, [0, 0]),
+        };
+        Refused { number, values }
     }
 }
 
-pub fn completed() -> Row {
-    numbered(0, 0, 0)
+// The start of a recorded answer: the number 0 and nothing more, where the result
+// follows, or the number of a refusal and its two values.
+pub fn refusal(reader: &mut Reader<'_>) -> Result<Option<Refused>, Malformed> {
+    let number = reader.u8()?;
+    if number == 0 {
+        return Ok(None);
+    }
+    let values = [reader.u64()?, reader.u64()?];
+    Ok(Some(Refused { number, values }))
 }
 
-pub fn refused(refusal: Refusal) -> Row {
-    match refusal {
-        Refusal::ZeroDimension => numbered(1, 0, 0),
-        Refusal::InvalidBlockDim {
-            ambient_dim,
-            block_dim,
-        } => numbered(2, ambient_dim, block_dim),
-        Refusal::DimensionNotDivisible {
-            ambient_dim,
-            block_dim,
-        } => numbered(3, ambient_dim, block_dim),
-        Refusal::InvalidCodebookSize(n) => numbered(4, n, 0),
-        Refusal::ResourceLimitExceeded => numbered(5, 0, 0),
-        Refusal::SliceLength(slice) => numbered(7, slice as u64, 0),
-        Refusal::CompactFrame(site) => numbered(8, site as u64, 0),
-        Refusal::PackedIndices(site) => numbered(9, site as u64, 0),
-        Refusal::IndexOutOfRange { index, bound } => numbered(11, index as u64, bound as u64),
-        // No record has any other.
-        _ => numbered(99, 0, 0),
-    }
+// Whether an answer is the one recorded, of which `read_result` reads the result.
+pub fn is_recorded<'a, T, F>(
+    reader: &mut Reader<'a>,
+    answer: Result<T, Refusal>,
+    read_result: F,
+) -> Result<bool, Malformed>
+where
+    T: Copy + PartialEq,
+    F: FnOnce(&mut Reader<'a>) -> Result<T, Malformed>,
+    requires { F.IsAlwaysCallable read_result }
+{
+    let recorded = match refusal(reader)? {
+        None => Ok(read_result(reader)?),
+        Some(refused) => Err(refused),
+    };
+    Ok(answer.map_err(Refused::from) == recorded)
 }
 
-pub fn checked(answer: Checked) -> Row {
-    match answer {
-        Checked::Accepted => completed(),
-        Checked::Refused(refusal) => refused(refusal),
-    }
-}
-
-pub fn read(file: &[u8], r: Reader) -> Recorded {
-    let number = reader::number(file, r, 1);
-    let next = number.next;
-    if number.value == 0 {
-        let row = completed();
-        return Recorded { row, next };
-    }
-    let first = reader::number(file, next, 8);
-    let second = reader::number(file, first.next, 8);
-    let row = numbered(number.value, first.value, second.value);
-    let next = second.next;
-    Recorded { row, next }
-}
-
-pub fn same_row(a: Row, b: Row) -> bool {
-    if a.number != b.number {
-        return false;
-    }
-    if a.first != b.first {
-        return false;
-    }
-    a.second == b.second
-}
-
-// A verdict of two parts: the row and the values.
-pub fn judged(a: Row, b: Row, values: bool, next: Reader) -> Verdict {
-    if same_row(a, b) {
-        return Verdict { same: values, next };
-    }
-    Verdict { same: false, next }
+// Whether a call that writes an output answers and writes as recorded: the output's length (1 byte), answer, values.
+// What the call leaves alone holds a pattern before it and has to hold it after.
+pub fn output<T, F, G, const N: usize>(
+    reader: &mut Reader<'_>,
+    pattern: [T; N],
+    call: F,
+    alike: G,
+) -> Result<bool, Malformed>
+where
+    T: Item,
+    F: FnOnce(&mut [T]) -> Result<(), Refusal>,
+    G: FnOnce(&[T], &[T]) -> bool,
+    requires call { F.IsAlwaysCallable call }
+    requires alike { G.IsAlwaysCallable alike }
+{
+    let len = usize::from(reader.u8()?);
+    let mut out = pattern;
+    let lent = out.get_mut(..len);
+    let answer = lent
+        .ok_or(Refusal::SliceLength(Slice::Output))
+        .and_then(call);
+    let mut expected = pattern;
+    let answered = is_recorded(reader, answer, |r| {
+        r.values(len, &mut expected).map(|_| ())
+    })?;
+    Ok(answered && alike(&out, &expected))
 }

@@ -8,136 +8,96 @@ mod answer;
 mod counts;
 mod errors;
 mod frames;
+mod kind;
 mod packing;
-mod parts;
 mod reader;
 mod rotations;
-mod same;
 
 ghost use Rattle.std.specs.Prelude.{◌≡◌, ◌≤◌, length, IfOk};
 
-use answer::Verdict;
-use reader::Reader;
-use std::io;
+use kind::Kind;
+use reader::{Malformed, Reader};
 use std::io::Read;
+use std::{fmt, io};
 
-// One record of that kind.
-fn record(kind: u64, file: &[u8], r: Reader) -> Verdict {
+// How many answers of a function came out, and how many did not.
+#[derive(Clone, Copy, Debug, Default)]
+struct Tally {
+    equal: u64,
+    different: u64,
+}
+
+impl fmt::Display for Tally {
+    fn fmt<W: fmt::Write>(&self, f: &mut fmt::Formatter<W>) -> fmt::Result {
+        let equal = self.equal;
+        let different = self.different;
+        write!(f, "{equal} equal, {different} different")
+    }
+}
+
+// Whether the next record's answer came out.
+fn record(kind: Kind, reader: &mut Reader<'_>) -> Result<bool, Malformed> {
+    // Kept: a match on the enum of kinds; a table of closures would say no more and be longer.
     match kind {
-        1 => packing::pack(file, r),
-        2 => packing::unpack(file, r),
-        3 => counts::wire_bits(file, r),
-        4 => counts::samples(file, r),
-        5 => frames::write(file, r),
-        6 => frames::parse(file, r),
-        7 => errors::mse(file, r),
-        8 => rotations::rotate(file, r, false),
-        9 => rotations::rotate(file, r, true),
-        10 => errors::nearest(file, r),
-        11 => errors::mean_error(file, r),
-        _ => Verdict {
-            same: false,
-            next: reader::malformed(r),
-        },
+        Kind::PackIndices => packing::pack(reader),
+        Kind::UnpackIndices => packing::unpack(reader),
+        Kind::WireIndexBits => counts::wire_bits(reader),
+        Kind::DefaultTrainingSamples => counts::samples(reader),
+        Kind::WriteCompact => frames::write(reader),
+        Kind::ParseCompact => frames::parse(reader),
+        Kind::Mse => errors::mse(reader),
+        Kind::Apply => rotations::apply(reader),
+        Kind::ApplyInverse => rotations::apply_inverse(reader),
+        Kind::NearestIndex => errors::nearest(reader),
+        Kind::MseForCodebook => errors::mean_error(reader),
     }
 }
 
-// One more of a kind.
-fn count(counts: &mut [u64; 12], kind: u64) {
-    if kind < 12 {
-        let k = kind as usize;
-        counts[k] = counts[k].wrapping_add(1);
-    }
-}
-
-// Every record from `start` on; whether the file ends with one.
-fn replay(file: &[u8], start: usize, equal: &mut [u64; 12], different: &mut [u64; 12]) -> bool {
-    let mut at = start;
-    while at < file.len() {
-        let kind = reader::number(file, Reader { at, good: true }, 1);
-        let verdict = record(kind.value, file, kind.next);
-        let next = verdict.next;
-        if !next.good {
-            return false;
+// Every record, a tally for each kind.
+fn replay(file: &[u8]) -> Result<[Tally; 11], Malformed> {
+    let mut reader = Reader::new(file)?;
+    let mut tallies = [Tally {
+        equal: 0,
+        different: 0,
+    }; 11];
+    // Each record takes a byte at least, so there are no more of them than bytes.
+    for _ in file {
+        if reader.is_at_end() {
+            break;
         }
-        // Each record takes a byte at least.
-        if next.at <= at {
-            return false;
-        }
-        at = next.at;
-        if verdict.same {
-            count(equal, kind.value);
+        let kind = Kind::try_from(reader.u8()?)?;
+        let same = record(kind, &mut reader)?;
+        let tally = &mut tallies[kind as usize];
+        if same {
+            tally.equal += 1;
         } else {
-            count(different, kind.value);
+            tally.different += 1;
         }
     }
-    true
-}
-
-fn line(
-    rt: &impl Print,
-    name: &str,
-    kind: usize,
-    equal: &[u64; 12],
-    different: &[u64; 12],
-) -> io::Result<()> {
-    if kind < 12 {
-        println!(rt;
-            "{name}: {} equal, {} different",
-            equal[kind], different[kind]
-        )?;
-    }
-    Ok(())
-}
-
-fn report(rt: &impl Print, equal: &[u64; 12], different: &[u64; 12]) -> io::Result<()> {
-    line(rt, "pack_indices", 1, equal, different)?;
-    line(rt, "unpack_indices", 2, equal, different)?;
-    line(rt, "wire_index_bits", 3, equal, different)?;
-    line(rt, "default_training_samples", 4, equal, different)?;
-    line(rt, "write_compact", 5, equal, different)?;
-    line(rt, "parse_compact", 6, equal, different)?;
-    line(rt, "mse", 7, equal, different)?;
-    line(rt, "apply", 8, equal, different)?;
-    line(rt, "apply_inverse", 9, equal, different)?;
-    line(rt, "nearest_index", 10, equal, different)?;
-    line(rt, "mse_for_codebook", 11, equal, different)
-}
-
-// The reader after the first line, which has to be this one.
-fn after_header(file: &[u8]) -> Reader {
-    let header = b"fib-quant answers, format 1: crates/replay/README.md\n";
-    let mut line = [0u8; 64];
-    let next = reader::bytes(file, Reader { at: 0, good: true }, header.len(), &mut line);
-    if same::slices(parts::bytes(&line, header.len()), header) {
-        return next;
-    }
-    reader::malformed(next)
+    Ok(tallies)
 }
 
 fn run(rt: &impl Print, file: &[u8]) -> io::Result<()> {
-    let start = after_header(file);
-    let mut equal = [0u64; 12];
-    let mut different = [0u64; 12];
-    if start.good && replay(file, start.at, &mut equal, &mut different) {
-        report(rt, &equal, &different)
-    } else {
-        println!(rt; "malformed")
+    match replay(file) {
+        Ok(tallies) => {
+            for (kind, tally) in Kind::ALL.iter().zip(tallies.iter()) {
+                println!(rt; "{kind}: {tally}")?;
+            }
+            Ok(())
+        }
+        Err(_) => println!(rt; "malformed"),
     }
 }
 
-// Room for the whole file; the `ensures` is what lending it as a slice needs.
-fn room() -> [u8; 131072]
-    ensures { 131072 ≡ length result }
-{
-    [0; 131072]
-}
+// Room for the whole file.
+const ROOM: usize = 131_072;
 
 // Reads until `buf` is full or the input ends, and gives how many bytes it put at the start of `buf`.
 fn read_full(input: &mut impl Read, buf: &mut [u8]) -> io::Result<usize>
     ensures { IfOk result (λ n. n ≤ length buf.new) }
 {
     let mut done = 0;
+    // Kept: each turn reads as much as the input gives at a time, until the room is full or the input ends.
     while done < buf.len() {
         let n = input.read(&mut buf[done..])?;
         if n == 0 {
@@ -149,7 +109,7 @@ fn read_full(input: &mut impl Read, buf: &mut [u8]) -> io::Result<usize>
 }
 
 fn main(rt: HostRuntime) -> io::Result<()> {
-    let mut buf = room();
+    let mut buf = [0; ROOM];
     let n = read_full(&mut rt.reader(), &mut buf)?;
     run(&rt, &buf[..n])
 }

@@ -1,138 +1,117 @@
-// Reading the recorded file. A reader is a place in it, and whether all that was read so far was there:
-// what is missing reads as 0, and only the end of a record asks.
+// The recorded file, read from front to back: numbers have their low byte first, lists come after their length.
 
-#[derive(Clone, Copy)]
-pub struct Reader {
-    pub at: usize,
-    pub good: bool,
+// What makes a file one of another form.
+#[derive(Clone, Copy, Debug, PartialEq)]
+pub enum Malformed {
+    AnotherHeader,
+    CutOff,
+    UnknownKind(u8),
+    // More values than any record has.
+    TooLong(usize),
+    // Among inputs or a rotation's values.
+    NotANumber,
 }
 
-// A number, and the reader after it.
-#[derive(Clone, Copy)]
-pub struct Got {
-    pub value: u64,
-    pub next: Reader,
+#[derive(Debug, Drop)]
+pub struct Reader<'a> {
+    rest: &'a [u8],
 }
 
-pub fn malformed(r: Reader) -> Reader {
-    Reader {
-        at: r.at,
-        good: false,
-    }
-}
-
-fn missing(r: Reader) -> Got {
-    Got {
-        value: 0,
-        next: malformed(r),
-    }
-}
-
-fn wide(byte: u8) -> u64 {
-    byte as u64
-}
-
-pub fn low8(x: u64) -> u8 {
-    (x % 0x100) as u8
-}
-
-pub fn low32(x: u64) -> u32 {
-    (x % 0x1_0000_0000) as u32
-}
-
-// A number of that many bytes, 8 at most, the low one first.
-pub fn number(file: &[u8], r: Reader, bytes: usize) -> Got {
-    let at = r.at;
-    if file.len() < bytes {
-        return missing(r);
-    }
-    if file.len() - bytes < at {
-        return missing(r);
-    }
-    let end = at + bytes;
-    let mut value = 0u64;
-    let mut i = end;
-    while at < i {
-        i -= 1;
-        value = (value << 8) | wide(file[i]);
-    }
-    Got {
-        value,
-        next: Reader {
-            at: end,
-            good: r.good,
-        },
-    }
-}
-
-// The first values of `out` from the file: as many as are asked for, if it has the room.
-pub fn bytes(file: &[u8], r: Reader, count: usize, out: &mut [u8; 64]) -> Reader {
-    if 64 < count {
-        return malformed(r);
-    }
-    let mut next = r;
-    let mut i = 0usize;
-    while i < count {
-        let got = number(file, next, 1);
-        out[i] = low8(got.value);
-        next = got.next;
-        i += 1;
-    }
-    next
-}
-
-// The same of numbers of 4 bytes.
-pub fn words(file: &[u8], r: Reader, count: usize, out: &mut [u32; 16]) -> Reader {
-    if 16 < count {
-        return malformed(r);
-    }
-    let mut next = r;
-    let mut i = 0usize;
-    while i < count {
-        let got = number(file, next, 4);
-        out[i] = low32(got.value);
-        next = got.next;
-        i += 1;
-    }
-    next
-}
-
-// The same of binary32 patterns, none of them a NaN's.
-pub fn singles(file: &[u8], r: Reader, count: usize, out: &mut [f32; 8]) -> Reader {
-    if 8 < count {
-        return malformed(r);
-    }
-    let mut next = r;
-    let mut i = 0usize;
-    while i < count {
-        let got = number(file, next, 4);
-        let x = patterns::f32_of(low32(got.value));
-        if x != x {
-            return malformed(next);
+impl<'a> Reader<'a> {
+    // Over what follows the first line, which has to be this one.
+    pub fn new(file: &'a [u8]) -> Result<Reader<'a>, Malformed> {
+        let header = b"fib-quant answers, format 1: crates/replay/README.md\n";
+        match file.strip_prefix(header) {
+            Some(rest) => Ok(Reader { rest }),
+            None => Err(Malformed::AnotherHeader),
         }
-        out[i] = x;
-        next = got.next;
-        i += 1;
     }
-    next
+
+    pub fn is_at_end(&self) -> bool {
+        self.rest.is_empty()
+    }
+
+    fn bytes<const N: usize>(&mut self) -> Result<[u8; N], Malformed> {
+        let (first, rest) = self.rest.split_first_chunk::<N>().ok_or(Malformed::CutOff)?;
+        self.rest = rest;
+        Ok(*first)
+    }
+
+    pub fn u8(&mut self) -> Result<u8, Malformed> {
+        Ok(u8::from_le_bytes(self.bytes()?))
+    }
+
+    pub fn u32(&mut self) -> Result<u32, Malformed> {
+        Ok(u32::from_le_bytes(self.bytes()?))
+    }
+
+    pub fn u64(&mut self) -> Result<u64, Malformed> {
+        Ok(u64::from_le_bytes(self.bytes()?))
+    }
+
+    pub fn f32(&mut self) -> Result<f32, Malformed> {
+        let x = patterns::f32_of(self.u32()?);
+        if x.is_nan() {
+            Err(Malformed::NotANumber)
+        } else {
+            Ok(x)
+        }
+    }
+
+    pub fn f64(&mut self) -> Result<f64, Malformed> {
+        let x = patterns::f64_of(self.u64()?);
+        if x.is_nan() {
+            Err(Malformed::NotANumber)
+        } else {
+            Ok(x)
+        }
+    }
+
+    // So many values, into the front of the room for them.
+    pub fn values<'b, T: Item>(
+        &mut self,
+        len: usize,
+        room: &'b mut [T],
+    ) -> Result<&'b [T], Malformed> {
+        let values = room.get_mut(..len).ok_or(Malformed::TooLong(len))?;
+        for value in values.iter_mut() {
+            *value = T::read(self)?;
+        }
+        Ok(values)
+    }
+
+    // Values after their length.
+    pub fn list<'b, T: Item>(&mut self, room: &'b mut [T]) -> Result<&'b [T], Malformed> {
+        let len = self.u8()?;
+        self.values(usize::from(len), room)
+    }
 }
 
-// The same of binary64 patterns, none of them a NaN's.
-pub fn doubles(file: &[u8], r: Reader, count: usize, out: &mut [f64; 32]) -> Reader {
-    if 32 < count {
-        return malformed(r);
+// What lists hold.
+pub trait Item: Copy {
+    fn read(reader: &mut Reader<'_>) -> Result<Self, Malformed>;
+}
+
+impl Item for u8 {
+    fn read(reader: &mut Reader<'_>) -> Result<u8, Malformed> {
+        reader.u8()
     }
-    let mut next = r;
-    let mut i = 0usize;
-    while i < count {
-        let got = number(file, next, 8);
-        let x = patterns::f64_of(got.value);
-        if x != x {
-            return malformed(next);
-        }
-        out[i] = x;
-        next = got.next;
-        i += 1;
+}
+
+impl Item for u32 {
+    fn read(reader: &mut Reader<'_>) -> Result<u32, Malformed> {
+        reader.u32()
     }
-    next
+}
+
+impl Item for f32 {
+    fn read(reader: &mut Reader<'_>) -> Result<f32, Malformed> {
+        reader.f32()
+    }
+}
+
+impl Item for f64 {
+    fn read(reader: &mut Reader<'_>) -> Result<f64, Malformed> {
+        reader.f64()
+    }
 }

@@ -10,34 +10,18 @@
 mod narrowing;
 mod roots;
 mod shapes;
-mod show;
 mod sums;
 
 use std::io;
 
 fn main(rt: HostRuntime) -> io::Result<()> {
-    conversions(&rt)?;
-    roots::ordinary(&rt)?;
-    roots::ends(&rt)?;
-    roots::special(&rt)?;
+    narrowing::to_binary32(&rt)?;
+    narrowing::to_binary16(&rt)?;
+    narrowing::from_binary16(&rt)?;
+    narrowing::norms(&rt)?;
+    roots::roots(&rt)?;
     shapes::default_samples(&rt)?;
-    shapes::profiles_of_document(&rt)?;
-    shapes::profiles_refused(&rt)?;
-    shapes::profiles_at_limits(&rt)?;
+    shapes::profiles(&rt)?;
     sums::errors(&rt)?;
     sums::rotations(&rt)
-}
-
-fn conversions(rt: &impl Print) -> io::Result<()> {
-    narrowing::to_binary32_near_one(rt)?;
-    narrowing::to_binary32_overflow(rt)?;
-    narrowing::to_binary32_underflow(rt)?;
-    narrowing::to_binary32_special(rt)?;
-    narrowing::to_binary16_near_one(rt)?;
-    narrowing::to_binary16_overflow(rt)?;
-    narrowing::to_binary16_underflow(rt)?;
-    narrowing::to_binary16_special(rt)?;
-    narrowing::from_binary16(rt)?;
-    narrowing::from_binary16_special(rt)?;
-    narrowing::norms(rt)
 }

@@ -1,6 +1,7 @@
--- Each record leaves less of the file.
-use Rattle.std.proofs.Common.{length, ◌-◌}
+-- No tally counts more records than were read.
+use Rattle.std.proofs.Common.{◌≤◌, All}
+use Rattle.replay.specs.declared.Tally.{Tally}
 use Rattle.replay.proofs.replay.Given as goal
 
-abbrev pub decreases-loop-at : goal.decreases-loop-at
-decreases-loop-at l = length l.file - l.at
+abbrev pub invariant-loop : goal.invariant-loop
+invariant-loop l = All (λ (t : Tally). (t.equal ≤ l.index) × (t.different ≤ l.index)) l.tallies
