@@ -1,14 +1,14 @@
 -- What a turn of the repairs says of a refinement that stands in a round. Assumes nothing.
 use Rattle.std.specs.Prelude.{Option, None, Some, Result, Ok, Err}
+use Rattle.std.specs.Result.{IsErrAnd}
 use mathlib.Core.Path.{◌≡◌, refl, sym, ap, ◌∙◌, subst}
 use Prim.Native.Nat.{ℕ, ◌+◌, ◌*◌, ◌≤◌, ◌<◌}
 use native.Mathlib.Omega.{arith}
-use mathlib.Core.Bool.{true, false, true≢false}
 use mathlib.Core.List.{List, [], ◌∷◌, ◌++◌, append_assoc}
 use lib.ListN.{length, length-append}
 use lib.Ieee.{Float}
 use Rattle.error.specs.declared.Refusal.{Refusal}
-use Rattle.error.specs.Numbers.{Outcome, completed, refusal, and_then, outcome}
+use Rattle.error.specs.Numbers.{Outcome, completed, refusal, and_then}
 use Rattle.error.proofs.Refusals.{by_refusal}
 use Rattle.profile.specs.declared.FibQuantProfile.{FibQuantProfile}
 use Rattle.lloyd_events.specs.declared.LloydRepairEvent.{LloydRepairEvent}
@@ -22,12 +22,10 @@ use Rattle.lloyd_update.proofs.RepairsLaw.{events_within, not_completed}
 use Rattle.lloyd_round.specs.Round.{places_of, numbers_of, Holding}
 use Rattle.lloyd_refine.specs.declared.LloydReport.{LloydReport}
 use Rattle.lloyd_refine.specs.declared.RefineState.{RefineState}
-use Rattle.lloyd_refine.specs.declared.RefineStep.{RefineStep}
-use Rattle.lloyd_refine.specs.declared.Pause.{Pause}
 use Rattle.lloyd_refine.specs.Refine.{Job, size_of, dim_of, refine_checks, round_terms, Trained, trained_from, Best, refinement}
 use Rattle.lloyd_refine.specs.Report.{report_of}
-use Rattle.lloyd_refine.specs.Standing.{job_of, round_means, round_far, InRound, RefineProgress, Matches}
-use Rattle.lloyd_refine.specs.Pauses.{at_cell, Paused, Pausing, ReadyIn}
+use Rattle.lloyd_refine.specs.Standing.{job_of, round_means, round_far, InRound, Ended, Matches}
+use Rattle.lloyd_refine.specs.Pauses.{at_cell, paused, Pausing, ReadyIn}
 use Rattle.lloyd_refine.proofs.CheckLaw.{checks_passed}
 use Rattle.lloyd_refine.proofs.EventLaw.{bests_within, rounds_within, refused_by}
 
@@ -44,6 +42,11 @@ pub to_args : (j : Job) {p : FibQuantProfile} {start xs ms : List Float} {most :
 to_args j {p} {start} {xs} {ms} {most} P same =
     by_job j (λ (z : Job). P z → P (job_of p j.schema j.algorithm j.log2 start xs ms j.codewords j.float_work j.integer_work most)) same (λ h. h)
 
+-- ---- a refusal that `?` hands on
+pub handed_on : {A : Type 0} (y : Result A Refusal) (x : Refusal) → IsErrAnd y (λ e. e ≡ x) → y ≡ Err x
+handed_on (Ok r) x h = absurd h
+handed_on (Err e) x h = ap Err h
+
 -- ---- a refinement that is refused once its checks are passed
 abbrev reported : Job → Outcome Best → Outcome LloydReport
 reported j o = and_then o (λ b. completed (report_of j b))
@@ -51,17 +54,12 @@ reported j o = and_then o (λ b. completed (report_of j b))
 pub report_refused : (j : Job) (x : Refusal) → refusal x ≡ reported j (refusal x)
 report_refused j x = by_refusal (λ (q : Outcome Best) (p : Outcome LloydReport). p ≡ reported j q) (λ n vs. refl) x
 
-pub not_refined : (j : Job) (events : List LloydRepairEvent) (work : List Float) (ints : List ℕ) (s : RefineStep) (x : Refusal) → s.going ≡ false → s.begun ≡ true → s.answer ≡ Err x
-    → refine_checks j ≡ completed tt → refinement j ≡ refusal x → RefineProgress j events work ints s
-not_refined j events work ints s x g b a k e = (
-  λ z. absurd (true≢false (sym z ∙ g)),
-  λ z. record {
-    answer = ap outcome a ∙ report_refused j x ∙ sym (ap (reported j) e);
-    done = λ r q. absurd (not_completed x r (sym e ∙ q));
-    begun = λ q. k;
-    early = λ q u v. true≢false (sym b ∙ q);
-  },
-)
+pub not_refined : (j : Job) (events : List LloydRepairEvent) (work : List Float) (x : Refusal) → refine_checks j ≡ completed tt → refinement j ≡ refusal x → Ended j events work (Err x)
+not_refined j events work x k e = record {
+  answers = report_refused j x ∙ sym (ap (reported j) e);
+  done = λ r q. absurd (not_completed x r (sym e ∙ q));
+  checked = k;
+}
 
 -- ---- what a turn is told
 module _ {j : Job} {b : Best} {t : Trained} {u : Repaired} {s : RefineState} {work : List Float} {ints : List ℕ} (h : InRound j b t u s work ints) where
@@ -117,45 +115,30 @@ module _ {j : Job} {b : Best} {t : Trained} {u : Repaired} {s : RefineState} {wo
       winner = h.winner;
     }
 
-    pub turned : (o : Result (Option Repair) Refusal) (p : Pause) → Paused j.profile s o p
-        → Turned (places_of (size_of j) (dim_of j)) (numbers_of (size_of j)) (round_terms j s.restart s.iteration (length t.events)) j.samples (round_far j t.codebook) (round_means j t.codebook) u after left o
-        → Pausing j (t.events ++ u.events) after left p
-    turned (Ok (Some w)) p (over, going, begun, event, state, answer) o =
+    pub turned : (o : Option Repair)
+        → Turned (places_of (size_of j) (dim_of j)) (numbers_of (size_of j)) (round_terms j s.restart s.iteration (length t.events)) j.samples (round_far j t.codebook) (round_means j t.codebook) u after left (Ok o)
+        → Pausing j (t.events ++ u.events) after left (Ok (paused j.profile s o))
+    turned (Some w) o =
         let k = length-append u.events (w.event ∷ []) in
         let n = ap length o.event in
         let made : s.made + 1 ≡ length o.after.events = omega (arith, h.made) in
-        let one : u.events ++ (w.event ∷ []) ≡ u.events ++ (p.step.event ∷ []) = ap (λ (z : LloydRepairEvent). u.events ++ (z ∷ [])) (sym event) in
-        let fit = events_within (round_terms j s.restart s.iteration (length t.events)) (round_far j t.codebook) (round_means j t.codebook) w.next o.after o.running.came in (
-          λ z. absurd (true≢false (sym z ∙ over)),
-          λ z. (
-            λ y. record {
-              b = b;
-              t = t;
-              u = o.after;
-              standing = subst (λ (x : RefineState). InRound j b t o.after x after left) (sym state) (stands_on o.after w.next (s.made + 1) made o.running);
-              last = ap (λ (x : List LloydRepairEvent). t.events ++ x) (o.event ∙ one) ∙ sym (append_assoc t.events u.events (p.step.event ∷ []));
-              room = omega (arith, length-append t.events u.events);
-              begun = begun;
-            },
-            λ y. absurd (true≢false (sym going ∙ y)),
-          ),
-        )
-    turned (Ok None) p (over, going, begun, event, state, answer) o = (
-      λ z. record {
-        b = b;
-        t = t;
-        u = u;
-        standing = subst (λ (x : RefineState). InRound j b t u x after left) (sym state) (stands_on u (size_of j) s.made h.made o.1);
-        all = ap (λ (x : RefineState). x.next) state;
-        so_far = refl;
-      },
-      λ z. absurd (true≢false (sym over ∙ z)),
-    )
-    turned (Err x) p (over, going, begun, event, state, answer) o = (
-      λ z. absurd (true≢false (sym z ∙ over)),
-      λ z. not_refined j (t.events ++ u.events) after left p.step x going begun answer h.checked
-          (refused_by j x s.restart s.iteration b t h.checked h.restart_below h.round_below h.bests h.rounds (h.repairs ∙ o)),
-    )
+        let fit = events_within (round_terms j s.restart s.iteration (length t.events)) (round_far j t.codebook) (round_means j t.codebook) w.next o.after o.running.came in
+        record {
+          b = b;
+          t = t;
+          u = o.after;
+          standing = stands_on o.after w.next (s.made + 1) made o.running;
+          last = ap (λ (x : List LloydRepairEvent). t.events ++ x) o.event ∙ sym (append_assoc t.events u.events (w.event ∷ []));
+          room = omega (arith, length-append t.events u.events);
+        }
+    turned None o = record { b = b; t = t; u = u; standing = stands_on u (size_of j) s.made h.made o.1; all = refl; so_far = refl }
+
+    pub turn_refused : (x : Refusal)
+        → Turned (places_of (size_of j) (dim_of j)) (numbers_of (size_of j)) (round_terms j s.restart s.iteration (length t.events)) j.samples (round_far j t.codebook) (round_means j t.codebook) u after left (Err x)
+        → Pausing j (t.events ++ u.events) after left (Err x)
+    turn_refused x o =
+        not_refined j (t.events ++ u.events) after x h.checked
+        (refused_by j x s.restart s.iteration b t h.checked h.restart_below h.round_below h.bests h.rounds (h.repairs ∙ o))
 
 -- ---- what is ready, by the arguments
 module _ {p : FibQuantProfile} {xs : List Float} {most : ℕ} {work : List Float} {ints : List ℕ} {s : RefineState} (q : ReadyIn p xs most work ints s) where

@@ -1,14 +1,15 @@
 -- How the steps of a refinement go from round to round and from restart to restart. Definitions only.
-use Rattle.std.specs.Prelude.{◌≡◌, ℕ, ◌+◌, true, false, List, ◌++◌, Float, Some, Option, None, Result, Ok, Err}
+use Rattle.std.specs.Prelude.{◌≡◌, ℕ, ◌+◌, List, ◌++◌, Float, Some, Option, None, Result, Ok, Err}
 use Rattle.profile.specs.declared.FibQuantProfile.{FibQuantProfile}
 use Rattle.lloyd_events.specs.declared.LloydRepairEvent.{LloydRepairEvent}
-use Rattle.lloyd_events.specs.Events.{zero_event}
 use Rattle.lloyd_cells.specs.Repair.{Repaired}
 use Rattle.error.specs.declared.Refusal.{Refusal}
 use Rattle.lloyd_repair.specs.declared.Repair.{Repair}
 use Rattle.lloyd_refine.specs.declared.LloydReport.{LloydReport}
 use Rattle.lloyd_refine.specs.declared.RefineState.{RefineState}
+use Rattle.lloyd_refine.specs.declared.RefineStep.TheVariants.{Made, Done}
 use Rattle.lloyd_refine.specs.declared.Pause.{Pause}
+use Rattle.lloyd_refine.specs.declared.Pause.TheVariants.{RoundOver, At}
 use Rattle.lloyd_refine.specs.Refine.{Job, size_of, Trained, Best}
 use Rattle.lloyd_refine.specs.Standing.{InRound, RefineProgress, Matches}
 
@@ -30,17 +31,17 @@ report_in p s = record {
 abbrev pub at_cell : ℕ → ℕ → RefineState → RefineState
 at_cell next made s = record s { next = next; made = made }
 
--- what a turn of the repairs makes of a state, member by member
-abbrev pub Paused : FibQuantProfile → RefineState → Result (Option Repair) Refusal → Pause → Type 0
-Paused f s (Ok (Some x)) p =
-    (p.over ≡ false) × (p.step.going ≡ true) × (p.step.begun ≡ true) × (p.step.event ≡ x.event)
-    × (p.step.state ≡ at_cell x.next (s.made + 1) s) × (p.step.answer ≡ Ok (report_in f s))
-Paused f s (Ok None) p =
-    (p.over ≡ true) × (p.step.going ≡ false) × (p.step.begun ≡ true) × (p.step.event ≡ zero_event)
-    × (p.step.state ≡ at_cell f.codebook_size s.made s) × (p.step.answer ≡ Ok (report_in f s))
-Paused f s (Err x) p =
-    (p.over ≡ false) × (p.step.going ≡ false) × (p.step.begun ≡ true) × (p.step.event ≡ zero_event)
-    × (p.step.state ≡ s) × (p.step.answer ≡ Err x)
+-- what a turn of the repairs that is not refused makes of a state
+abbrev pub paused : FibQuantProfile → RefineState → Option Repair → Pause
+paused f s (Some x) = At (Made (record { event = x.event; state = at_cell x.next (s.made + 1) s }))
+paused f s None = RoundOver (at_cell f.codebook_size s.made s)
+
+-- a state after s, where there is one, stands in its round
+abbrev pub InSameRound : RefineState → Result Pause Refusal → Type 0
+InSameRound s (Ok (RoundOver t)) = (t.restart ≡ s.restart) × (t.iteration ≡ s.iteration)
+InSameRound s (Ok (At (Made m))) = (m.state.restart ≡ s.restart) × (m.state.iteration ≡ s.iteration)
+InSameRound s (Ok (At (Done r))) = Unit
+InSameRound s (Err x) = Unit
 
 -- this restart's end, of error e, is the best so far
 abbrev pub with_best : Float → RefineState → RefineState
@@ -57,9 +58,10 @@ pub record Over (j : Job) (events : List LloydRepairEvent) (work : List Float) (
   pub so_far : t.events ++ u.events ≡ events
 
 -- a round is over, or the refinement waits or has stopped
-abbrev pub Pausing : Job → List LloydRepairEvent → List Float → List ℕ → Pause → Type 0
-Pausing j events work ints p = (p.over ≡ true → Over j events work ints p.step.state)
-    × (p.over ≡ false → RefineProgress j events work ints p.step)
+abbrev pub Pausing : Job → List LloydRepairEvent → List Float → List ℕ → Result Pause Refusal → Type 0
+Pausing j events work ints (Ok (RoundOver s)) = Over j events work ints s
+Pausing j events work ints (Ok (At s)) = RefineProgress j events work ints (Ok s)
+Pausing j events work ints (Err x) = RefineProgress j events work ints (Err x)
 
 -- ---- some refinement stands there
 pub record ReadyIn (p : FibQuantProfile) (samples : List Float) (slots : ℕ) (work : List Float) (ints : List ℕ)

@@ -1,5 +1,5 @@
 -- Where a refinement stands between two steps, and what its work then holds. Definitions only.
-use Rattle.std.specs.Prelude.{◌≡◌, ℕ, ◌*◌, ◌<◌, true, false, List, [], ◌∷◌, ◌++◌, length, Float}
+use Rattle.std.specs.Prelude.{◌≡◌, ℕ, ◌*◌, ◌<◌, List, [], ◌∷◌, ◌++◌, length, Float, Result, Ok, Err}
 use Rattle.error.specs.Numbers.{completed, and_then, outcome}
 use Rattle.profile.specs.declared.FibQuantProfile.{FibQuantProfile}
 use Rattle.lloyd_events.specs.declared.LloydRepairEvent.{LloydRepairEvent}
@@ -7,7 +7,11 @@ use Rattle.lloyd_cells.specs.Repair.{Cells, Repaired, repair_to}
 use Rattle.lloyd_repair.specs.Running.{Running}
 use Rattle.lloyd_round.specs.Round.{means_of, far_of, places_of, numbers_of, Holding}
 use Rattle.lloyd_refine.specs.declared.RefineState.{RefineState}
+use Rattle.lloyd_refine.specs.declared.RefineRepair.{RefineRepair}
 use Rattle.lloyd_refine.specs.declared.RefineStep.{RefineStep}
+use Rattle.lloyd_refine.specs.declared.RefineStep.TheVariants.{Made, Done}
+use Rattle.lloyd_refine.specs.declared.LloydReport.{LloydReport}
+use Rattle.error.specs.declared.Refusal.{Refusal}
 use Rattle.lloyd_refine.specs.Refine.{Job, size_of, dim_of, count_of, restarts_of, iterations_of, refine_checks, round_terms, round_of, Trained, rounds_to, trained_from, error_of, Best, restarts_to, refinement}
 use Rattle.lloyd_refine.specs.Report.{report_of}
 
@@ -61,27 +65,27 @@ pub record InRound (j : Job) (b : Best) (t : Trained) (u : Repaired) (s : Refine
 
 -- a repair was made; its event waits to be written after `events`
 pub record Going (j : Job) (events : List LloydRepairEvent) (work : List Float) (ints : List ℕ)
-    (s : RefineStep) : Type 0 where
+    (made : RefineRepair) : Type 0 where
   pub b : Best
   pub t : Trained
   pub u : Repaired
-  pub standing : InRound j b t u s.state work ints
-  pub last : t.events ++ u.events ≡ events ++ (s.event ∷ [])
+  pub standing : InRound j b t u made.state work ints
+  pub last : t.events ++ u.events ≡ events ++ (made.event ∷ [])
   pub room : length events < j.slots
-  pub begun : s.begun ≡ true
 
--- the refinement has come to its end, and `events` are its events
-pub record Ended (j : Job) (events : List LloydRepairEvent) (work : List Float) (s : RefineStep) : Type 0 where
-  pub answer : outcome s.answer ≡ and_then (refinement j) (λ b. completed (report_of j b))
+-- the refinement has come to its end after its checks, and `events` are its events
+pub record Ended (j : Job) (events : List LloydRepairEvent) (work : List Float)
+    (answer : Result LloydReport Refusal) : Type 0 where
+  pub answers : outcome answer ≡ and_then (refinement j) (λ b. completed (report_of j b))
   pub done : (b : Best) → refinement j ≡ completed b → (events ≡ b.events)
       × Holding (size_of j) (dim_of j) (size_of j * dim_of j) b.codebook work
-  pub begun : s.begun ≡ true → refine_checks j ≡ completed tt
-  pub early : s.begun ≡ false → (u : Unit) → refine_checks j ≡ completed u → ⊥
+  pub checked : refine_checks j ≡ completed tt
 
 -- either
-abbrev pub RefineProgress : Job → List LloydRepairEvent → List Float → List ℕ → RefineStep → Type 0
-RefineProgress j events work ints s = (s.going ≡ true → Going j events work ints s)
-    × (s.going ≡ false → Ended j events work s)
+abbrev pub RefineProgress : Job → List LloydRepairEvent → List Float → List ℕ → Result RefineStep Refusal → Type 0
+RefineProgress j events work ints (Ok (Made m)) = Going j events work ints m
+RefineProgress j events work ints (Ok (Done r)) = Ended j events work (Ok r)
+RefineProgress j events work ints (Err x) = Ended j events work (Err x)
 
 -- what a job was called with
 pub record Matches (j : Job) (p : FibQuantProfile) (start xs ms : List Float) (most : ℕ) : Type 0 where
@@ -93,8 +97,8 @@ pub record Matches (j : Job) (p : FibQuantProfile) (start xs ms : List Float) (m
 
 -- some refinement is going on
 pub record ReadyRefine (p : FibQuantProfile) (initial samples matrices : List Float) (slots : ℕ) (work : List Float)
-    (ints : List ℕ) (s : RefineStep) : Type 0 where
+    (ints : List ℕ) (made : RefineRepair) : Type 0 where
   pub job : Job
   pub events : List LloydRepairEvent
   pub matches : Matches job p initial samples matrices slots
-  pub going : Going job events work ints s
+  pub going : Going job events work ints made

@@ -1,10 +1,10 @@
 // The refinement of lloyd.rs: its checks, the repairs of a round,
 // the end of a restart, its own end, and the test of its report.
-// A repair is a value here; the event slots are written in one place above. The public functions but the test of a
+// A repair is a value here; its event is written in one place above. The public functions but the test of a
 // report are public only for the crates above.
 #![tactic(auto)]
 
-ghost use Rattle.std.specs.Prelude.{◌≡◌, true, false, not, is_ok, ◌&&◌, cond, [], ◌++◌, ◌+◌, ◌*◌, ◌/◌, ◌≤◌, ◌<◌, length, get_or, take, replicate};
+ghost use Rattle.std.specs.Prelude.{◌≡◌, true, is_ok, cond, [], ◌++◌, ◌+◌, ◌*◌, ◌/◌, ◌≤◌, ◌<◌, length, get_or, take, replicate};
 ghost use Rattle.std.specs.Float.{nan, binary32};
 ghost use Rattle.std.specs.Float.Ieee.{lt};
 ghost use Rattle.error.specs.Names.{slice_number};
@@ -22,7 +22,7 @@ ghost use Rattle.lloyd_cells.specs.Repair.{Repaired};
 ghost use Rattle.lloyd_refine.specs.Refine.{Job, Best, Trained, refine_limit, room_of, length_checks, refine_checks};
 ghost use Rattle.lloyd_refine.specs.Report.{winner_below, same_settings, report_test};
 ghost use Rattle.lloyd_refine.specs.Standing.{job_of, InRound, Matches};
-ghost use Rattle.lloyd_refine.specs.Pauses.{report_in, with_best, Paused, Pausing, ReadyIn};
+ghost use Rattle.lloyd_refine.specs.Pauses.{report_in, with_best, paused, InSameRound, Pausing, ReadyIn};
 
 use error::{Refusal, ReportSite, Slice};
 use lloyd_events::LloydRepairEvent;
@@ -59,24 +59,25 @@ pub struct RefineState {
     pub best_restart: Option<u32>,
 }
 
-// Where a refinement stands: a repair was made and its event is to be written, or it has stopped with its answer.
-// Nothing reads its answer while it goes on, nor its event and
-// state once it has stopped with its answer: there they are free.
+// A repair that a refinement has made: its event, which is to be written, and where the refinement goes on.
 #[derive(Clone, Copy)]
-pub struct RefineStep {
-    pub going: bool,
-    // Updating has begun, so that work and event slots are zeroed if it is refused.
-    pub begun: bool,
+pub struct RefineRepair {
     pub event: LloydRepairEvent,
     pub state: RefineState,
-    pub answer: Result<LloydReport, Refusal>,
 }
 
-// A round is over, every cell having had its turn, and the step shows where; or the step itself.
+// How far a refinement has come, unless it is refused: to a repair, or to its report.
 #[derive(Clone, Copy)]
-pub struct Pause {
-    pub over: bool,
-    pub step: RefineStep,
+pub enum RefineStep {
+    Made(RefineRepair),
+    Done(LloydReport),
+}
+
+// Every cell of a round has had its turn; or the refinement has come to a step.
+#[derive(Clone, Copy)]
+pub enum Pause {
+    RoundOver(RefineState),
+    At(RefineStep),
 }
 
 // The largest magnitude that a refinement takes: 2 ^ 20.
@@ -185,52 +186,27 @@ pub fn report(profile: FibQuantProfile, s: RefineState) -> LloydReport
     }
 }
 
-// Stopped with an answer, before updating began or once it has.
-pub fn stop(begun: bool, s: RefineState, answer: Result<LloydReport, Refusal>) -> RefineStep
-    ensures { (result.going ≡ false) × (result.begun ≡ begun) × (result.state ≡ s) × (result.answer ≡ answer)
-        × (result.event ≡ zero_event) }
-{
-    RefineStep {
-        going: false,
-        begun,
-        event: lloyd_events::zero_event(),
-        state: s,
-        answer,
-    }
-}
-
-// Where a turn of the repairs leaves a refinement.
-fn paused(profile: FibQuantProfile, s: RefineState, turn: Result<Option<Repair>, Refusal>) -> Pause
-    requires { (s.before ≤ 1048576) × (s.made ≤ 1048576) }
-    ensures { Paused profile s turn result }
+// Where a turn of the repairs leaves a refinement that it does not refuse.
+fn paused(profile: FibQuantProfile, s: RefineState, turn: Option<Repair>) -> Pause
+    requires { s.made ≤ 1048576 }
+    ensures { result ≡ paused profile s turn }
 {
     match turn {
-        Ok(Some(repair)) => {
-            let step = RefineStep {
-                going: true,
-                begun: true,
-                event: repair.event,
-                state: RefineState {
-                    next: repair.next,
-                    made: s.made + 1,
-                    ..s
-                },
-                answer: Ok(report(profile, s)),
-            };
-            Pause { over: false, step }
-        }
-        Ok(None) => {
+        Some(repair) => {
             let state = RefineState {
-                next: profile.codebook_size as usize,
+                next: repair.next,
+                made: s.made + 1,
                 ..s
             };
-            let step = stop(true, state, Ok(report(profile, s)));
-            Pause { over: true, step }
+            Pause::At(RefineStep::Made(RefineRepair {
+                event: repair.event,
+                state,
+            }))
         }
-        Err(refusal) => {
-            let step = stop(true, s, Err(refusal));
-            Pause { over: false, step }
-        }
+        None => Pause::RoundOver(RefineState {
+            next: profile.codebook_size as usize,
+            ..s
+        }),
     }
 }
 
@@ -243,13 +219,13 @@ pub fn repair_on(
     slots: usize,
     profile: FibQuantProfile,
     s: RefineState,
-) -> Pause
+) -> Result<Pause, Refusal>
     requires { ReadyIn profile samples.now slots work.old ints.old s }
     ensures stands { (j : Job) (b : Best) (t : Trained) (u : Repaired)
         → Matches j profile j.initial samples.now j.matrices slots
         → InRound j b t u s work.old ints.old
         → Pausing j (t.events ++ u.events) work.new ints.new result }
-    ensures round { (result.step.state.restart ≡ s.restart) × (result.step.state.iteration ≡ s.iteration) }
+    ensures round { InSameRound s result }
 {
     let n = profile.codebook_size as usize;
     let k = profile.block_dim as usize;
@@ -271,8 +247,8 @@ pub fn repair_on(
         terms,
         s.next,
         s.made,
-    );
-    paused(profile, s, turn)
+    )?;
+    Ok(paused(profile, s, turn))
 }
 
 // This restart's end is the best so far.
@@ -316,43 +292,40 @@ pub fn keep_better(
     s
 }
 
-// The end: an accepted refinement writes the codewords from the
-// best codebook, and work is zeroed once updating has begun.
+// The end of a refinement that passed its checks: an accepted one writes the codewords from the best codebook, and
+// work is zeroed.
 pub fn finish_refine(
     codewords: &mut [f32],
     work: &mut [f64],
     ints: &mut [u32],
-    s: RefineStep,
+    answer: Result<LloydReport, Refusal>,
 ) -> Result<LloydReport, Refusal>
-    requires { s.begun ≡ true → 2 * length codewords.old ≤ length work.old }
-    ensures answer { result ≡ s.answer }
+    requires { is_ok answer ≡ true → 2 * length codewords.old ≤ length work.old }
+    ensures answer { result ≡ answer }
     ensures codewords { codewords.new
-        ≡ cond (s.begun && is_ok s.answer)
+        ≡ cond (is_ok answer)
         (tabulate (length codewords.old)
         (λ i. narrow_to binary32 (get_or work.old (length codewords.old + i) nan)))
         codewords.old }
-    ensures work { work.new
-        ≡ cond s.begun (replicate (length work.old) plus_zero) work.old }
-    ensures ints { ints.new
-        ≡ cond s.begun (replicate (length ints.old) 0) ints.old }
+    ensures work { work.new ≡ replicate (length work.old) plus_zero }
+    ensures ints { ints.new ≡ replicate (length ints.old) 0 }
 {
-    let answer = s.answer;
-    if s.begun {
-        if answer.is_ok() {
-            let best = codewords.len();
-            lloyd_restart::narrow_out(&*work, best, codewords);
-        }
-        slices::zero_f64(work);
-        slices::zero_u32(ints);
+    if answer.is_ok() {
+        let best = codewords.len();
+        lloyd_restart::narrow_out(&*work, best, codewords);
     }
+    slices::zero_f64(work);
+    slices::zero_u32(ints);
     answer
 }
 
-// Whether a refinement was refused once updating had begun.
-pub fn refused_after_start(s: RefineStep) -> bool
-    ensures { result ≡ (s.begun && not (is_ok s.answer)) }
+// The end of its slots: a refinement that is refused leaves no event.
+pub fn finish_events(events: &mut [LloydRepairEvent], answer: Result<LloydReport, Refusal>)
+    ensures { events.new ≡ cond (is_ok answer) events.old (replicate (length events.old) zero_event) }
 {
-    s.begun && s.answer.is_err()
+    if answer.is_err() {
+        lloyd_events::zero_events(events);
+    }
 }
 
 // Whether the start was kept, or the restart that won is one of so many.

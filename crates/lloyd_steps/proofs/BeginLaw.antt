@@ -1,30 +1,20 @@
 -- The beginning of a refinement: the initial codebook is the first restart's
 -- start and the best so far. Assumes nothing.
-use Rattle.std.specs.Prelude.{Err}
 use mathlib.Core.Path.{◌≡◌, refl, sym, ap, ◌∙◌, subst}
 use Prim.Native.Nat.{ℕ, ◌+◌, ◌*◌, ◌/◌}
 use native.Mathlib.Omega.{arith}
-use mathlib.Core.Bool.{Bool, true, false, true≢false}
 use mathlib.Core.List.{List}
 use lib.ListN.{length, get_or}
 use lib.Ieee.{Float, nan}
-use Rattle.error.specs.declared.Refusal.{Refusal}
-use Rattle.error.specs.Numbers.{Outcome, completed, refusal, and_then, outcome}
-use Rattle.error.proofs.Refusals.{by_refusal}
+use Rattle.error.specs.Numbers.{completed}
 use Rattle.slices.specs.Lists.{patched}
 use Rattle.slices.proofs.ListLaw.{length-patched, patched_inside, patched_below}
-use Rattle.lloyd_update.proofs.RepairsLaw.{not_completed}
-use Rattle.lloyd_events.specs.declared.LloydRepairEvent.{LloydRepairEvent}
 use Rattle.lloyd_round.specs.Round.{Holding}
 use Rattle.lloyd_search.specs.Distance.{row_of}
 use Rattle.lloyd_search.specs.Nearest.{mean_error}
-use Rattle.lloyd_refine.specs.declared.RefineStep.{RefineStep}
-use Rattle.lloyd_refine.specs.Refine.{Job, size_of, dim_of, refine_checks, start_of, trained_from, error_of, Best, start_best, restarts_to, refine_of, refinement}
-use Rattle.lloyd_refine.specs.Report.{report_of}
-use Rattle.lloyd_refine.specs.Standing.{RefineProgress}
+use Rattle.lloyd_refine.specs.Refine.{Job, size_of, dim_of, refine_checks, start_of, trained_from, error_of, start_best, restarts_to}
 use Rattle.lloyd_steps.specs.Steps.{first_state, AtRound}
 use Rattle.lloyd_refine.proofs.CheckLaw.{checks_passed}
-use Rattle.lloyd_refine.proofs.TurnLaw.{report_refused}
 use Rattle.lloyd_steps.proofs.RestartLaw.{measured, Kept, starts}
 
 -- ---- the first restart
@@ -70,25 +60,3 @@ module _ (j : Job) (checked : refine_checks j ≡ completed tt) (work one two : 
       let k : Kept j 0 (start_best j) (first_state e) two = record { floats = size_two ∙ floats; bests = refl; kept = kept; first = refl; earlier = refl; made = refl; init = m; best = m; winner = refl } in
       let q : start_of j 0 ≡ j.initial = refl in
       starts k checked ints integers (omega (arith, p.valid.settings.restarts_least)) two refl (subst (λ (z : List Float). Holding (size_of j) (dim_of j) 0 z two) (sym q) current) (λ i l. refl)
-
--- ---- refused by a check
-module _ (j : Job) (events : List LloydRepairEvent) (work : List Float) (ints : List ℕ) (s : RefineStep) where
-  pub unchecked : (x : Refusal) → s.going ≡ false → s.begun ≡ false → s.answer ≡ Err x → refusal x ≡ refine_checks j → RefineProgress j events work ints s
-  unchecked x g b a e =
-      let is : refinement j ≡ refusal x = ap (λ (o : Outcome Unit). and_then o (λ u. refine_of j)) (sym e) ∙ by_refusal (λ (q : Outcome Unit) (p : Outcome Best). and_then q (λ u. refine_of j) ≡ p) (λ n vs. refl) x in (
-        λ z. absurd (true≢false (sym z ∙ g)),
-        λ z. record {
-          answer = ap outcome a ∙ report_refused j x ∙ sym (ap (λ (o : Outcome Best). and_then o (λ y. completed (report_of j y))) is);
-          done = λ r k. absurd (not_completed x r (sym is ∙ k));
-          begun = λ k. absurd (true≢false (sym k ∙ b));
-          early = λ k u q. not_completed x u (e ∙ q);
-        },
-      )
-
-  -- a refinement that has passed its checks has begun
-  pub has_begun : RefineProgress j events work ints s → refine_checks j ≡ completed tt → s.begun ≡ false → ⊥
-  has_begun p k b = go s.going refl
-    where
-      go : (t : Bool) → s.going ≡ t → ⊥
-      go true e = true≢false (sym (p.0 e).begun ∙ b)
-      go false e = (p.1 e).early b tt k

@@ -41,9 +41,9 @@ module _ {p : FibQuantProfile} {start xs ms : List Float} {most : ℕ} {work : L
     pub over_stands : Over over_job q.events work ints s
     over_stands = to_args q.job (λ (z : Job). Over z q.events work ints s) q.matches q.over
 
-module _ {p : FibQuantProfile} {start xs : List Float} {most floats integers : ℕ} (q : ReadyJob p start xs most floats integers) where
+module _ {p : FibQuantProfile} {start xs ms : List Float} {most floats integers : ℕ} (q : ReadyJob p start xs ms most floats integers) where
   abbrev pub first_job : Job
-  first_job = job_for q.job p start xs q.job.matrices most
+  first_job = job_for q.job p start xs ms most
 
   pub first_checked : refine_checks first_job ≡ completed tt
   first_checked = to_args q.job (λ (z : Job). refine_checks z ≡ completed tt) q.matches q.checked

@@ -5,13 +5,13 @@ use Prim.Native.Nat.{ℕ, ◌+◌, ◌-◌, ◌*◌, ◌/◌, ◌%◌, ◌≤◌
 use native.Mathlib.Nat.{mul-div_cancel, zero-add, mul-le-mul_right}
 use native.Mathlib.Numerals.{add-one}
 use native.Mathlib.Omega.{arith}
-use mathlib.Core.Bool.{Bool, true, false, cond, true≢false}
+use mathlib.Core.Bool.{Bool, true, false, cond}
 use mathlib.Core.List.{List}
 use lib.ListN.{length, get_or, take}
 use lib.Seq.{ext_get_or, get_or-take, length-take-le}
 use lib.Ieee.{Float, nan, lt}
 use borrow.Author.Tests.{ne_eqb}
-use Rattle.error.specs.Numbers.{Outcome, completed, and_then, outcome}
+use Rattle.error.specs.Numbers.{Outcome, completed, and_then}
 use Rattle.error.proofs.Outcomes.{completed_same}
 use Rattle.slices.specs.Lists.{patched}
 use Rattle.slices.proofs.ListLaw.{length-patched, patched_inside, patched_above}
@@ -21,10 +21,9 @@ use Rattle.lloyd_search.specs.Distance.{row_of}
 use Rattle.lloyd_search.specs.Nearest.{mean_error}
 use Rattle.lloyd_round.specs.Round.{Holding}
 use Rattle.lloyd_refine.specs.declared.RefineState.{RefineState}
-use Rattle.lloyd_refine.specs.declared.RefineStep.{RefineStep}
 use Rattle.lloyd_refine.specs.Refine.{Job, size_of, dim_of, count_of, restarts_of, iterations_of, refine_checks, Trained, rounds_to, matrix_of, initial_word, rotated, start_of, trained_from, error_of, Best, after_restart, restarts_to, refine_of, refinement}
 use Rattle.lloyd_refine.specs.Report.{report_of}
-use Rattle.lloyd_refine.specs.Standing.{RefineProgress}
+use Rattle.lloyd_refine.specs.Standing.{Ended}
 use Rattle.lloyd_refine.specs.Pauses.{report_in, with_best}
 use Rattle.lloyd_steps.specs.Steps.{AtRound}
 use Rattle.lloyd_refine.proofs.CheckLaw.{checks_passed}
@@ -189,17 +188,13 @@ module _ {j : Job} {r : ℕ} {b : Best} {s : RefineState} {work : List Float} (h
 
 -- ---- the end
 module _ {j : Job} {b : Best} {s : RefineState} {work : List Float} (h : Kept j (restarts_of j) b s work) (checked : refine_checks j ≡ completed tt) where
-  pub refined : (ints : List ℕ) (p : RefineStep) → p.going ≡ false → p.begun ≡ true → p.answer ≡ Ok (report_in j.profile s) → RefineProgress j b.events work ints p
-  refined ints p going begun answer =
-      let is : refinement j ≡ completed b = ap (λ (o : Outcome Unit). and_then o (λ u. refine_of j)) checked ∙ h.bests in (
-        λ z. absurd (true≢false (sym z ∙ going)),
-        λ z. record {
-          answer = ap outcome answer ∙ ap completed same ∙ sym (ap (λ (o : Outcome Best). and_then o (λ x. completed (report_of j x))) is);
-          done = λ x e. subst (λ (y : Best). (b.events ≡ y.events) × Holding (size_of j) (dim_of j) (size_of j * dim_of j) y.codebook work) (completed_same b x (sym is ∙ e)) (refl, h.kept);
-          begun = λ y. checked;
-          early = λ y u v. true≢false (sym begun ∙ y);
-        },
-      )
+  pub refined : Ended j b.events work (Ok (report_in j.profile s))
+  refined =
+      let is : refinement j ≡ completed b = ap (λ (o : Outcome Unit). and_then o (λ u. refine_of j)) checked ∙ h.bests in record {
+        answers = ap completed same ∙ sym (ap (λ (o : Outcome Best). and_then o (λ x. completed (report_of j x))) is);
+        done = λ x e. subst (λ (y : Best). (b.events ≡ y.events) × Holding (size_of j) (dim_of j) (size_of j * dim_of j) y.codebook work) (completed_same b x (sym is ∙ e)) (refl, h.kept);
+        checked = checked;
+      }
     where
       same : report_in j.profile s ≡ report_of j b
       same = rw (h.init, h.best, h.winner, h.earlier)

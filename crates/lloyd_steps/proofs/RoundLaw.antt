@@ -5,7 +5,6 @@ use Prim.Native.Nat.{ℕ, ◌+◌, ◌*◌, ◌/◌, ◌%◌, ◌≤◌, ◌<◌
 use native.Mathlib.Nat.{mod-lt, div-add-mod', div-lt_iff_lt-mul}
 use native.Mathlib.Numerals.{add-one}
 use native.Mathlib.Omega.{arith}
-use mathlib.Core.Bool.{true, false}
 use mathlib.Core.List.{List, [], ◌∷◌}
 use lib.ListN.{length, get_or, take, length-append}
 use lib.Seq.{get_or-take, length-take-le}
@@ -26,9 +25,8 @@ use Rattle.lloyd_cells.proofs.TallyLaw.{tallied, tallied_some}
 use Rattle.lloyd_repair.specs.Running.{Running}
 use Rattle.lloyd_round.specs.Round.{places_of, numbers_of, Holding, Roomy, AtFirst}
 use Rattle.lloyd_refine.specs.declared.RefineState.{RefineState}
-use Rattle.lloyd_refine.specs.declared.RefineStep.{RefineStep}
 use Rattle.lloyd_refine.specs.Refine.{Job, size_of, dim_of, count_of, iterations_of, round_terms, round_of, Trained, after_round, rounds_to, trained_from, Best}
-use Rattle.lloyd_refine.specs.Standing.{round_means, round_far, InRound, RefineProgress}
+use Rattle.lloyd_refine.specs.Standing.{round_means, round_far, InRound, Ended}
 use Rattle.lloyd_steps.specs.Steps.{AtRound}
 use Rattle.lloyd_refine.proofs.CheckLaw.{checks_passed}
 use Rattle.lloyd_refine.proofs.EventLaw.{refused_by}
@@ -120,9 +118,9 @@ module _ {j : Job} {b : Best} {t : Trained} {s : RefineState} {work : List Float
 
     -- or it is refused, as its policy forbids empty cells
     pub closed : s.iteration < iterations_of j → (empty : ℕ) → empty ≡ count_to (λ i. get_or (take (size_of j) left) i 0) 0 (length (take (size_of j) left)) → 0 < empty → j.profile.empty_cell_policy ≡ FailClosed
-        → (p : RefineStep) → p.going ≡ false → p.begun ≡ true → p.answer ≡ Err (EmptyCells empty) → RefineProgress j t.events after left p
-    closed l empty e some policy p going begun answer =
-        not_refined j t.events after left p (EmptyCells empty) going begun answer h.checked
+        → Ended j t.events after (Err (EmptyCells empty))
+    closed l empty e some policy =
+        not_refined j t.events after (EmptyCells empty) h.checked
         (refused_by j (EmptyCells empty) s.restart s.iteration b t h.checked h.restart_below l h.bests h.rounds
         (closed_refuses j s.restart s.iteration (length t.events) t.codebook empty (counted empty e) some policy))
 

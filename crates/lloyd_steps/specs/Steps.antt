@@ -1,5 +1,5 @@
 -- How a refinement stands between two rounds, and what its steps ask. Definitions only.
-use Rattle.std.specs.Prelude.{◌≡◌, ℕ, ◌-◌, ◌*◌, ◌≤◌, ◌<◌, List, length, Float, None}
+use Rattle.std.specs.Prelude.{◌≡◌, ℕ, ◌-◌, ◌*◌, ◌≤◌, ◌<◌, Ok, List, length, Float, None}
 use Rattle.error.specs.Numbers.{completed}
 use Rattle.profile.specs.declared.FibQuantProfile.{FibQuantProfile}
 use Rattle.lloyd_events.specs.declared.LloydRepairEvent.{LloydRepairEvent}
@@ -76,11 +76,11 @@ pub record ReadyPause (p : FibQuantProfile) (initial samples matrices : List Flo
   pub job : Job
   pub events : List LloydRepairEvent
   pub matches : Matches job p initial samples matrices slots
-  pub stands : Pausing job events work ints q
+  pub stands : Pausing job events work ints (Ok q)
 
-pub record ReadyJob (p : FibQuantProfile) (initial samples : List Float) (slots floats integers : ℕ) : Type 0 where
+pub record ReadyJob (p : FibQuantProfile) (initial samples matrices : List Float) (slots floats integers : ℕ) : Type 0 where
   pub job : Job
-  pub matches : Matches job p initial samples job.matrices slots
+  pub matches : Matches job p initial samples matrices slots
   pub checked : refine_checks job ≡ completed tt
   pub float_work : floats ≡ job.float_work
   pub integer_work : integers ≡ job.integer_work

@@ -1,20 +1,18 @@
-// The refinement step by step: from its checks to the first repair, and
+// The refinement step by step, once its checks are passed: to the first repair, and
 // from one repair to the next, over the rounds and restarts between them.
 // The public functions are public only for the crate above, which writes the event slots.
 #![tactic(auto)]
 
-ghost use Rattle.std.specs.Prelude.{◌≡◌, Err, true, false, List, [], ◌∷◌, ◌++◌, ◌+◌, ◌*◌, ◌<◌, length};
-ghost use Rattle.error.specs.Numbers.{completed, outcome};
-ghost use Rattle.ieee.specs.Sum.{plus_zero};
+ghost use Rattle.std.specs.Prelude.{◌≡◌, Ok, List, [], ◌∷◌, ◌++◌, ◌+◌, ◌*◌, ◌<◌, length};
+ghost use Rattle.error.specs.Numbers.{completed};
 ghost use Rattle.lloyd_events.specs.declared.LloydRepairEvent.{LloydRepairEvent};
-ghost use Rattle.lloyd_events.specs.Events.{zero_event};
 ghost use Rattle.lloyd_refine.specs.Refine.{Job, Best, Trained, refine_checks};
-ghost use Rattle.lloyd_refine.specs.Standing.{job_of, Going, RefineProgress, Matches, ReadyRefine};
-ghost use Rattle.lloyd_refine.specs.Pauses.{Over, Pausing};
+ghost use Rattle.lloyd_refine.specs.Standing.{Going, RefineProgress, Matches, ReadyRefine};
+ghost use Rattle.lloyd_refine.specs.Pauses.{InSameRound, Over, Pausing};
 ghost use Rattle.lloyd_steps.specs.Steps.{rounds_left, first_state, AtRound, ReadyRound, ReadyOver, ReadyEnd, ReadyPause, ReadyJob};
 
 use error::Refusal;
-use lloyd_refine::{Pause, RefineState, RefineStep};
+use lloyd_refine::{Pause, RefineRepair, RefineState, RefineStep};
 use profile::{EmptyCellPolicy, FibQuantProfile};
 
 // A round begins: samples go to their nearest codewords, the cells get their means, and then come the repairs.
@@ -25,13 +23,13 @@ fn start_round(
     slots: usize,
     profile: FibQuantProfile,
     s: RefineState,
-) -> Pause
+) -> Result<Pause, Refusal>
     requires { ReadyRound profile samples.now slots work.old ints.old s }
     ensures stands { (j : Job) (b : Best) (t : Trained)
         → Matches j profile j.initial samples.now j.matrices slots
         → AtRound j b t s work.old ints.old
         → Pausing j t.events work.new ints.new result }
-    ensures round { (result.step.state.restart ≡ s.restart) × (result.step.state.iteration ≡ s.iteration) }
+    ensures round { InSameRound s result }
 {
     let n = profile.codebook_size as usize;
     let k = profile.block_dim as usize;
@@ -39,9 +37,7 @@ fn start_round(
     lloyd_round::begin_round(samples, &mut *work, &mut *ints, n, k, count);
     let empty = lloyd_update::count_empty(&ints[..n]);
     if profile.empty_cell_policy == EmptyCellPolicy::FailClosed && 0 < empty {
-        let answer = Err(Refusal::EmptyCells(empty as u64));
-        let step = lloyd_refine::stop(true, s, answer);
-        return Pause { over: false, step };
+        return Err(Refusal::EmptyCells(empty as u64));
     }
     lloyd_refine::repair_on(samples, work, ints, slots, profile, s)
 }
@@ -56,14 +52,14 @@ fn next_restart(
     slots: usize,
     profile: FibQuantProfile,
     s: RefineState,
-) -> Pause
+) -> Result<Pause, Refusal>
     requires { ReadyEnd profile initial.now samples.now matrices.now slots work.old ints.old s }
     ensures stands { (j : Job) (b : Best) (t : Trained)
         → Matches j profile initial.now samples.now matrices.now slots
         → AtRound j b t s work.old ints.old
         → Pausing j t.events work.new ints.new result }
-    ensures next { result.over ≡ true → (result.step.state.restart ≡ s.restart + 1)
-        × (result.step.state.iteration ≡ 0) }
+    ensures next { (t : RefineState) → result ≡ Ok (Pause.RoundOver t) → (t.restart ≡ s.restart + 1)
+        × (t.iteration ≡ 0) }
 {
     let n = profile.codebook_size as usize;
     let k = profile.block_dim as usize;
@@ -75,8 +71,8 @@ fn next_restart(
         ..kept
     };
     if restart == profile.lloyd_restarts {
-        let step = lloyd_refine::stop(true, t, Ok(lloyd_refine::report(profile, t)));
-        return Pause { over: false, step };
+        let report = lloyd_refine::report(profile, t);
+        return Ok(Pause::At(RefineStep::Done(report)));
     }
     lloyd_restart::start_restart(initial, matrices, &mut *work, n, k, restart as usize);
     start_round(samples, work, ints, slots, profile, t)
@@ -92,13 +88,14 @@ fn next_round(
     slots: usize,
     profile: FibQuantProfile,
     s: RefineState,
-) -> Pause
+) -> Result<Pause, Refusal>
     requires { ReadyOver profile initial.now samples.now matrices.now slots work.old ints.old s }
     ensures stands { (j : Job) (events : List LloydRepairEvent)
         → Matches j profile initial.now samples.now matrices.now slots
         → Over j events work.old ints.old s
         → Pausing j events work.new ints.new result }
-    ensures falls { result.over ≡ true → rounds_left profile result.step.state < rounds_left profile s }
+    ensures falls { (t : RefineState) → result ≡ Ok (Pause.RoundOver t)
+        → rounds_left profile t < rounds_left profile s }
 {
     let values = profile.codebook_size as usize * profile.block_dim as usize;
     lloyd_restart::copy_part(&mut *work, 2 * values, 0, values);
@@ -126,21 +123,24 @@ fn advance(
     slots: usize,
     profile: FibQuantProfile,
     p: Pause,
-) -> RefineStep
+) -> Result<RefineStep, Refusal>
     requires { ReadyPause profile initial.now samples.now matrices.now slots work.old ints.old p }
     ensures { (j : Job) (events : List LloydRepairEvent)
         → Matches j profile initial.now samples.now matrices.now slots
-        → Pausing j events work.old ints.old p
+        → Pausing j events work.old ints.old (Ok p)
         → RefineProgress j events work.new ints.new result }
 {
     let mut pause = p;
-    while pause.over {
-        let state = pause.step.state;
-        pause = next_round(
-            initial, samples, matrices, &mut *work, &mut *ints, slots, profile, state,
-        );
+    loop {
+        match pause {
+            Pause::RoundOver(state) => {
+                pause = next_round(
+                    initial, samples, matrices, &mut *work, &mut *ints, slots, profile, state,
+                )?;
+            }
+            Pause::At(step) => return Ok(step),
+        }
     }
-    pause.step
 }
 
 // Restart 0 and its round 0, where the initial codebook's error is this.
@@ -159,79 +159,34 @@ fn first_state(error: f64) -> RefineState
     }
 }
 
-// The first round, once the checks are passed: restart 0 starts from the initial codebook, which is the best so far.
-fn start_refine(
+// The first repair, once the checks are passed: restart 0 starts from the initial codebook, which is the best so far.
+// What stands in the work beside its codebooks is for the next steps;
+// where it is refused it is left for the end to zero.
+pub fn start_refine(
     initial: &[f64],
     samples: &[f64],
+    matrices: &[f64],
     work: &mut [f64],
     ints: &mut [u32],
     slots: usize,
     profile: FibQuantProfile,
-) -> Pause
-    requires { ReadyJob profile initial.now samples.now slots (length work.old) (length ints.old) }
-    ensures { (j : Job) → Matches j profile initial.now samples.now j.matrices slots
+) -> Result<RefineStep, Refusal>
+    requires { ReadyJob profile initial.now samples.now matrices.now slots (length work.old) (length ints.old) }
+    ensures { (j : Job) → Matches j profile initial.now samples.now matrices.now slots
         → refine_checks j ≡ completed tt → length work.old ≡ j.float_work
-        → length ints.old ≡ j.integer_work → Pausing j [] work.new ints.new result }
+        → length ints.old ≡ j.integer_work → RefineProgress j [] work.new ints.new result }
 {
     let n = profile.codebook_size as usize;
     let k = profile.block_dim as usize;
     lloyd_restart::copy_in(initial, &mut *work, 0);
     lloyd_restart::copy_in(initial, &mut *work, n * k);
     let error = lloyd_search::mean_error(initial, n, k, samples);
-    start_round(samples, work, ints, slots, profile, first_state(error))
-}
-
-// The checks, the initial codebook, and the first repair. Once it has begun, what stands in the work beside its
-// codebooks is for the next steps; where it is refused it is left for the end to zero.
-pub fn begin_refine(
-    initial: &[f64],
-    samples: &[f64],
-    matrices: &[f64],
-    work: &mut [f64],
-    ints: &mut [u32],
-    profile: FibQuantProfile,
-    schema: &[u8],
-    rotation_algorithm: &[u8],
-    log2: f64,
-    codewords: usize,
-    slots: usize,
-) -> RefineStep
-    ensures progress { RefineProgress
-        (job_of profile schema.now rotation_algorithm.now log2 initial.now
-        samples.now matrices.now codewords (length work.old)
-        (length ints.old) slots) [] work.new ints.new result }
-    ensures early { result.begun ≡ false → (work.new ≡ work.old)
-        × (ints.new ≡ ints.old) }
-{
-    let checked = lloyd_refine::check_refine(
-        initial,
-        samples,
-        matrices,
-        profile,
-        schema,
-        rotation_algorithm,
-        log2,
-        codewords,
-        work.len(),
-        ints.len(),
-        slots,
-    );
-    if let Err(r) = checked {
-        return not_begun(r);
-    }
-    let p = start_refine(initial, samples, &mut *work, &mut *ints, slots, profile);
+    let state = first_state(error);
+    let p = start_round(samples, &mut *work, &mut *ints, slots, profile, state)?;
     advance(initial, samples, matrices, work, ints, slots, profile, p)
 }
 
-// Refused by a check.
-fn not_begun(r: Refusal) -> RefineStep
-    ensures { (result.going ≡ false) × (result.begun ≡ false) × (result.answer ≡ Err r)
-        × (result.event ≡ zero_event) × (result.state ≡ first_state plus_zero) }
-{
-    lloyd_refine::stop(false, first_state(0.0), Err(r))
-}
-
-// The refinement goes on after the repair that s made, whose event is written by now. What stands in the work beside
+// The refinement goes on after a repair that was made, whose event is written by now. What stands in the work beside
 // its codebooks is for the next steps; where it is refused it is left for the end to zero.
 pub fn next_refine(
     initial: &[f64],
@@ -241,14 +196,15 @@ pub fn next_refine(
     ints: &mut [u32],
     slots: usize,
     profile: FibQuantProfile,
-    s: RefineStep,
-) -> RefineStep
-    requires { ReadyRefine profile initial.now samples.now matrices.now slots work.old ints.old s }
+    made: RefineRepair,
+) -> Result<RefineStep, Refusal>
+    requires { ReadyRefine profile initial.now samples.now matrices.now slots work.old ints.old made }
     ensures { (j : Job) (events : List LloydRepairEvent)
         → Matches j profile initial.now samples.now matrices.now slots
-        → Going j events work.old ints.old s
-        → RefineProgress j (events ++ (s.event ∷ [])) work.new ints.new result }
+        → Going j events work.old ints.old made
+        → RefineProgress j (events ++ (made.event ∷ [])) work.new ints.new result }
 {
-    let p = lloyd_refine::repair_on(samples, &mut *work, &mut *ints, slots, profile, s.state);
+    let state = made.state;
+    let p = lloyd_refine::repair_on(samples, &mut *work, &mut *ints, slots, profile, state)?;
     advance(initial, samples, matrices, work, ints, slots, profile, p)
 }

@@ -2,16 +2,18 @@
 // with the event of each repair written to a lent row of slots.
 #![tactic(auto)]
 
-ghost use Rattle.std.specs.Prelude.{◌≡◌, length};
+ghost use Rattle.std.specs.Prelude.{◌≡◌, ◌++◌, ◌*◌, length, drop};
 ghost use Rattle.error.specs.Numbers.{completed, and_then, outcome};
 ghost use Rattle.ieee.specs.Sum.{plus_zero};
-ghost use Rattle.lloyd_refine.specs.Refine.{refinement, codewords_after, work_after, slots_after};
+ghost use Rattle.lloyd_round.specs.Round.{Holding};
+ghost use Rattle.lloyd_refine.specs.Refine.{Job, Best, size_of, dim_of, refine_checks, refinement, codewords_after, work_after, slots_after};
 ghost use Rattle.lloyd_refine.specs.Report.{report_of};
-ghost use Rattle.lloyd_refine.specs.Standing.{job_of};
+ghost use Rattle.lloyd_refine.specs.Standing.{job_of, Matches};
+ghost use Rattle.lloyd_steps.specs.Steps.{ReadyJob};
 
 use error::Refusal;
 use lloyd_events::LloydRepairEvent;
-use lloyd_refine::LloydReport;
+use lloyd_refine::{LloydReport, RefineStep};
 use profile::FibQuantProfile;
 
 // Refinement: from the initial codebook, and from its image under each matrix, rounds of nearest codewords and updates.
@@ -38,29 +40,59 @@ pub fn refine_codebook(
         × (ints.new ≡ work_after 0 j ints.old)
         × (events.new ≡ slots_after j events.old) }
 {
-    let size = codewords.len();
-    let slots = events.len();
-    let mut s = lloyd_steps::begin_refine(
+    lloyd_refine::check_refine(
         initial,
         samples,
         matrices,
-        work,
-        ints,
         profile,
         schema,
         rotation_algorithm,
         log2,
-        size,
-        slots,
-    );
+        codewords.len(),
+        work.len(),
+        ints.len(),
+        events.len(),
+    )?;
+    let answer = write_repairs(initial, samples, matrices, work, ints, profile, events);
+    lloyd_refine::finish_events(events, answer);
+    lloyd_refine::finish_refine(codewords, work, ints, answer)
+}
+
+// The steps of a refinement that has passed its checks, up to its answer; the event of each repair is written.
+fn write_repairs(
+    initial: &[f64],
+    samples: &[f64],
+    matrices: &[f64],
+    work: &mut [f64],
+    ints: &mut [u32],
+    profile: FibQuantProfile,
+    events: &mut [LloydRepairEvent],
+) -> Result<LloydReport, Refusal>
+    requires { ReadyJob profile initial.now samples.now matrices.now
+        (length events.old) (length work.old) (length ints.old) }
+    ensures { (j : Job) → Matches j profile initial.now samples.now matrices.now (length events.old)
+        → refine_checks j ≡ completed tt → length work.old ≡ j.float_work
+        → length ints.old ≡ j.integer_work
+        → (outcome result ≡ and_then (refinement j) (λ b. completed (report_of j b)))
+        × ((b : Best) → refinement j ≡ completed b
+        → (events.new ≡ b.events ++ drop (length b.events) events.old)
+        × Holding (size_of j) (dim_of j) (size_of j * dim_of j) b.codebook work.new) }
+{
+    let slots = events.len();
+    let mut step = lloyd_steps::start_refine(
+        initial, samples, matrices, work, ints, slots, profile,
+    )?;
     let mut used = 0;
-    while s.going {
-        lloyd_events::put_event(events, used, s.event);
-        used += 1;
-        s = lloyd_steps::next_refine(initial, samples, matrices, work, ints, slots, profile, s);
+    loop {
+        match step {
+            RefineStep::Made(repair) => {
+                lloyd_events::put_event(events, used, repair.event);
+                used += 1;
+                step = lloyd_steps::next_refine(
+                    initial, samples, matrices, work, ints, slots, profile, repair,
+                )?;
+            }
+            RefineStep::Done(report) => return Ok(report),
+        }
     }
-    if lloyd_refine::refused_after_start(s) {
-        lloyd_events::zero_events(events);
-    }
-    lloyd_refine::finish_refine(codewords, work, ints, s)
 }

@@ -1,15 +1,16 @@
 -- `lloyd_steps::next_restart` meets its contract: the better codebook is
 -- kept, and then comes the next restart or the report. Assumes nothing.
 use Rattle.std.specs.Prelude.{Ok}
-use mathlib.Core.Path.{sym, ap, ◌∙◌, subst}
-use mathlib.Core.Bool.{false, true≢false}
+use mathlib.Core.Path.{subst}
 use mathlib.Core.List.{List}
 use Prim.Native.Nat.{ℕ, ◌+◌, ◌<◌}
 use native.Mathlib.Omega.{arith}
 use Rattle.lloyd_events.specs.declared.LloydRepairEvent.{LloydRepairEvent}
 use Rattle.lloyd_refine.specs.Refine.{Job, Best, restarts_of, after_restart, trained_from}
-use Rattle.lloyd_refine.specs.Standing.{RefineProgress}
-use Rattle.lloyd_refine.specs.Pauses.{Pausing}
+use Rattle.lloyd_refine.specs.declared.RefineStep.TheVariants.{Done}
+use Rattle.lloyd_refine.specs.declared.Pause.TheVariants.{At}
+use Rattle.lloyd_refine.specs.Standing.{Ended}
+use Rattle.lloyd_refine.specs.Pauses.{report_in, Pausing}
 use Rattle.lloyd_steps.specs.Steps.{AtRound}
 use Rattle.lloyd_refine.proofs.CheckLaw.{checks_passed}
 use Rattle.lloyd_refine.proofs.EventLaw.{after_events}
@@ -24,8 +25,8 @@ keep_better-kept-requires c =
     let m = can_measure (end_job c.requires) h.checked in
     (m.0, m.1, m.2, room h c.requires.last)
 
-pub report-requires : goal.report-requires
-report-requires c =
+pub report-report-requires : goal.report-report-requires
+report-report-requires c =
     let h = end_stands c.requires in
     let e = c.keep_better-kept.ensures in
     few_events (restart_ended h c.requires.last _ _ e.state e.work) h.checked
@@ -34,16 +35,13 @@ pub returns-then-restart-profile-clause-stands : goal.returns-then-restart-profi
 returns-then-restart-profile-clause-stands c =
     let a = c.args in
     let k = c.keep_better-kept in
-    let e = c.stop-step.ensures in
-    λ j b t same h. by_job j (λ (z : Job). AtRound z b t a.s a.work.now a.ints.now → Pausing z t.events k.new.work a.ints.now (record { over = false; step = c.stop-step.result })) same
+    λ j b t same h. by_job j (λ (z : Job). AtRound z b t a.s a.work.now a.ints.now → Pausing z t.events k.new.work a.ints.now (Ok (At (Done c.report-report.result)))) same
     (λ g. let z = job_for j a.profile a.initial.now a.samples.now a.matrices.now a.slots in
     let kept : Kept z (a.s.restart + 1) (after_restart z a.s.restart b t) (started_at (a.s.restart + 1) k.result) k.new.work =
-    kept_started (restart_ended g c.requires.last k.result k.new.work k.ensures.state k.ensures.work) in (
-      λ y. absurd (true≢false (sym y)),
-      λ y. subst (λ (x : List LloydRepairEvent). RefineProgress z x k.new.work a.ints.now c.stop-step.result) (after_events z a.s.restart b t)
-          (refined (subst (λ (x : ℕ). Kept z x (after_restart z a.s.restart b t) (started_at (a.s.restart + 1) k.result) k.new.work) c.if-restart-profile.true kept) g.checked a.ints.now c.stop-step.result e.0 e.1
-          (e.3 ∙ ap Ok c.report.ensures)),
-    )) h
+    kept_started (restart_ended g c.requires.last k.result k.new.work k.ensures.state k.ensures.work) in
+    rw c.report-report.ensures
+    (subst (λ (x : List LloydRepairEvent). Ended z x k.new.work (Ok (report_in a.profile (started_at (a.s.restart + 1) k.result)))) (after_events z a.s.restart b t)
+    (refined (subst (λ (x : ℕ). Kept z x (after_restart z a.s.restart b t) (started_at (a.s.restart + 1) k.result) k.new.work) c.if-restart-profile.true kept) g.checked))) h
 
 pub start_restart-requires : goal.start_restart-requires
 start_restart-requires c =

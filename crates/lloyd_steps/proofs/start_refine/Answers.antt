@@ -7,8 +7,8 @@ use lib.ListN.{length}
 use Rattle.error.specs.Numbers.{completed}
 use Rattle.lloyd_refine.specs.declared.RefineState.{RefineState}
 use Rattle.lloyd_refine.specs.Refine.{Job, refine_checks, trained_from, start_best}
-use Rattle.lloyd_refine.specs.Pauses.{Pausing}
-use Rattle.lloyd_refine.proofs.TurnLaw.{by_job}
+use Rattle.lloyd_refine.specs.Standing.{RefineProgress}
+use Rattle.lloyd_refine.proofs.TurnLaw.{by_job, handed_on}
 use Rattle.lloyd_steps.proofs.ReadyLaw.{job_for, fits_itself, first_job, first_checked, first_passed}
 use Rattle.lloyd_steps.proofs.RestartLaw.{can_measure}
 use Rattle.lloyd_steps.proofs.BeginLaw.{begins}
@@ -33,16 +33,39 @@ start_round-requires c =
       b = start_best z;
       t = trained_from z 0 (start_best z);
       matches = fits_itself z;
-      standing = rw c.first_state.ensures (begins z (first_checked q) c.args.work.now c.copy_in.new.work c.copy_in-2.new.work q.float_work c.copy_in.ensures c.copy_in-2.ensures m.result m.ensures c.args.ints.now q.integer_work);
-      below = omega (arith, ap (λ (x : RefineState). x.iteration) c.first_state.ensures, (first_passed q).valid.settings.iterations_least);
+      standing = rw c.first_state-state.ensures (begins z (first_checked q) c.args.work.now c.copy_in.new.work c.copy_in-2.new.work q.float_work c.copy_in.ensures c.copy_in-2.ensures m.result m.ensures c.args.ints.now q.integer_work);
+      below = omega (arith, ap (λ (x : RefineState). x.iteration) c.first_state-state.ensures, (first_passed q).valid.settings.iterations_least);
+    }
+
+pub returns-in_err-p : goal.returns-in_err-p
+returns-in_err-p c =
+    let a = c.args in
+    let n = c.start_round.new in
+    let m = c.mean_error-error in
+    λ j same. by_job j (λ (z : Job). refine_checks z ≡ completed tt → length a.work.now ≡ z.float_work → length a.ints.now ≡ z.integer_work → RefineProgress z [] n.work n.ints c.from_residual.result) same
+    (λ k f i. let z = job_for j a.profile a.initial.now a.samples.now a.matrices.now a.slots in
+    rw (handed_on _ _ c.from_residual.ensures.1) (c.in_err-p.ensures.stands z (start_best z) (trained_from z 0 (start_best z)) (fits_itself z)
+    (rw c.first_state-state.ensures (begins z k a.work.now c.copy_in.new.work c.copy_in-2.new.work f c.copy_in.ensures c.copy_in-2.ensures m.result m.ensures a.ints.now i))))
+
+pub advance-requires : goal.advance-requires
+advance-requires c =
+    let q = c.requires in
+    let z = first_job q in
+    let m = c.mean_error-error in
+    record {
+      job = z;
+      events = [];
+      matches = fits_itself z;
+      stands = c.in_ok-p.ensures.stands z (start_best z) (trained_from z 0 (start_best z)) (fits_itself z)
+          (rw c.first_state-state.ensures (begins z (first_checked q) c.args.work.now c.copy_in.new.work c.copy_in-2.new.work q.float_work c.copy_in.ensures c.copy_in-2.ensures m.result m.ensures c.args.ints.now q.integer_work));
     }
 
 pub returns : goal.returns
 returns c =
     let a = c.args in
-    let n = c.start_round in
+    let n = c.advance in
     let m = c.mean_error-error in
-    λ j same. by_job j (λ (z : Job). refine_checks z ≡ completed tt → length a.work.now ≡ z.float_work → length a.ints.now ≡ z.integer_work → Pausing z [] n.new.work n.new.ints n.result) same
-    (λ k f i. let z = job_for j a.profile a.initial.now a.samples.now j.matrices a.slots in
-    n.ensures.stands z (start_best z) (trained_from z 0 (start_best z)) (fits_itself z)
-    (rw c.first_state.ensures (begins z k a.work.now c.copy_in.new.work c.copy_in-2.new.work f c.copy_in.ensures c.copy_in-2.ensures m.result m.ensures a.ints.now i)))
+    λ j same. by_job j (λ (z : Job). refine_checks z ≡ completed tt → length a.work.now ≡ z.float_work → length a.ints.now ≡ z.integer_work → RefineProgress z [] n.new.work n.new.ints n.result) same
+    (λ k f i. let z = job_for j a.profile a.initial.now a.samples.now a.matrices.now a.slots in
+    n.ensures z [] (fits_itself z) (c.in_ok-p.ensures.stands z (start_best z) (trained_from z 0 (start_best z)) (fits_itself z)
+    (rw c.first_state-state.ensures (begins z k a.work.now c.copy_in.new.work c.copy_in-2.new.work f c.copy_in.ensures c.copy_in-2.ensures m.result m.ensures a.ints.now i))))

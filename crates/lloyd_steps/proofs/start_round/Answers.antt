@@ -1,8 +1,9 @@
 -- `lloyd_steps::start_round` meets its contract: the means of the round, the
 -- policy for empty cells, and the repairs from cell 0 on. Assumes nothing.
-use Rattle.std.proofs.Common.{rules}
+use Rattle.std.proofs.Common.{Err, rules}
+use Rattle.error.specs.declared.Refusal.TheVariants.{EmptyCells}
 use mathlib.Core.Path.{◌≡◌, refl, sym, subst}
-use mathlib.Core.Bool.{false, true≢false}
+use mathlib.Core.Bool.{true≢false}
 use mathlib.Core.List.{List, append-nil}
 use Prim.Native.Nat.{ℕ, ◌≤◌}
 use lib.Ieee.{Float}
@@ -45,13 +46,9 @@ returns-then-empty-gt0-clause-stands c =
     let a = c.args in
     let n = c.begin_round.new in
     let k = c.begin_round.ensures.kept in
-    let e = c.stop-step.ensures in
     let policy : a.profile.empty_cell_policy ≡ FailClosed = search rules in
-    λ j b t same h. by_job j (λ (z : Job). AtRound z b t a.s a.work.now a.ints.now → Pausing z t.events n.work n.ints (record { over = false; step = c.stop-step.result })) same
-    (λ g. (
-      λ y. absurd (true≢false (sym y)),
-      λ y. closed g n.work n.ints k.0 k.1 k.2 (c.begin_round.ensures.first _ _ refl refl g.current) c.requires.below c.count_empty-empty.result c.count_empty-empty.ensures c.if-empty-gt0.true policy c.stop-step.result e.0 e.1 e.3,
-    )) h
+    λ j b t same h. by_job j (λ (z : Job). AtRound z b t a.s a.work.now a.ints.now → Pausing z t.events n.work n.ints (Err (EmptyCells c.count_empty-empty.result))) same
+    (λ g. closed g n.work n.ints k.0 k.1 k.2 (c.begin_round.ensures.first _ _ refl refl g.current) c.requires.below c.count_empty-empty.result c.count_empty-empty.ensures c.if-empty-gt0.true policy) h
 
 pub repair_on-requires : goal.repair_on-requires
 repair_on-requires c =
