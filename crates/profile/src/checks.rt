@@ -9,7 +9,7 @@ ghost use Rattle.profile.specs.Checks as valid;
 use crate::{DirectionMethod, FibQuantProfile, NormFormat, RadiusMethod, SourceMode};
 use error::{Field, Refusal};
 
-// Whether a and b hold the same bytes.
+// Whether a and b hold the same bytes. Kept: `==` under the definition that the contracts cite.
 pub fn same(a: &[u8], b: &[u8]) -> bool
     ensures { result ≡ same_bytes a.now b.now }
 {
