@@ -6,7 +6,7 @@ use Prim.Native.Nat.{ℕ}
 use mathlib.Core.List.{List}
 use Rattle.error.specs.declared.Refusal.{Refusal}
 use Rattle.error.specs.declared.Refusal.TheVariants.{ZeroDimension, InvalidBlockDim, DimensionNotDivisible, InvalidCodebookSize, ResourceLimitExceeded, ProfileField, ProfileRate, SliceLength, CompactFrame, PackedIndices, Norm, IndexOutOfRange, NonFiniteInput, ZeroNorm, EmptyCells, NoDonor, NoDirection, CodeHeader, OutOfBounds, EventSlotsUsed, Report}
-use Rattle.error.specs.Numbers.{Value, Outcome, completed, refused, refusal, outcome, also, if_completed}
+use Rattle.error.specs.Numbers.{Value, Outcome, completed, refused, refusal, outcome, also}
 
 -- what holds of every refused outcome holds of every refusal, at two types of answers
 pub by_refusal : {A B : Type 0} (P : Outcome A → Outcome B → Type 0) → ((n : ℕ) (values : List Value) → P (refused n values) (refused n values)) → (r : Refusal) → P (refusal r) (refusal r)
@@ -31,10 +31,6 @@ by_refusal P h CodeHeader = h _ _
 by_refusal P h (OutOfBounds slice place) = h _ _
 by_refusal P h (EventSlotsUsed slots) = h _ _
 by_refusal P h (Report site) = h _ _
-
--- a refused call leaves a buffer as it stood
-pub leaves_refused : {B : Type 0} (new old : B) (r : Refusal) (o : Outcome Unit) → refusal r ≡ o → old ≡ if_completed o new old
-leaves_refused new old r o e = rw (← e) (by_refusal (λ (q p : Outcome Unit). old ≡ if_completed q new old) (λ n values. refl) r)
 
 -- ---- a check and what comes after it: a refusal stays, a completed check passes on, and a completed chain has completed parts
 pub refused_first : {A : Type 0} (r : Refusal) (o : Outcome A) → also (refusal r) o ≡ refusal r

@@ -7,12 +7,6 @@ ghost use Rattle.std.specs.Float.{binary64};
 ghost use Rattle.std.specs.Float.Ieee.{of_int};
 ghost use Rattle.std.specs.Float.Ieee.Scale.{finite};
 
-// The bit patterns of the infinities. A search starts from one as a
-// constant, since no arithmetic result of a training job is infinite.
-pub const INFINITY: u64 = 0x7FF0_0000_0000_0000;
-
-pub const MINUS_INFINITY: u64 = 0xFFF0_0000_0000_0000;
-
 // Rust's `n as f64`: the binary64 value nearest to n, for every n.
 // (Rattle's own `as` stops at 2^53, where it would begin to round.)
 pub fn from_u64(n: u64) -> f64
@@ -30,6 +24,7 @@ pub fn is_finite(x: f64) -> bool
 }
 
 // The same for binary32.
+// Kept: two functions, as std has a method for each type; a generic one would be a trait with these two bodies.
 #[tactic(auto, using(crate::proofs::Finite::finite_is))]
 pub fn is_finite_f32(x: f32) -> bool
     ensures { result ≡ finite x }

@@ -1,12 +1,11 @@
 -- `mag_of` at the kit's two formats is what `to_bits` makes of the rounded value, so `packed` and `narrow_to` agree. A
 -- rounded value fits, and is no NaN. Assumes nothing.
-use Rattle.std.proofs.Common.{◌≡◌, ℕ, zero, suc, ◌+◌, ◌-◌, ◌*◌, ◌/◌, ◌%◌, ◌^◌, ◌<◌, ◌≤◌, min, Bool, true, false, cond, not, T, ltb, sym, refl, ap, ◌∙◌, subst, inl, inr, true≢false, zero-le, le_trans, le_of_eq, le_refl, le_of_lt, add_assoc, mul-le-mul_right, suc-mul, mul_comm, eq-or-lt_of_le, mul-one, mul-div_cancel, sub-eq-zero_of_le, arith, ltb→lt, nltb→le, pow_pos, pow-add, shl_lt}
+use Rattle.std.proofs.Common.{◌≡◌, ℕ, zero, suc, ◌+◌, ◌-◌, ◌*◌, ◌/◌, ◌%◌, ◌^◌, ◌<◌, ◌≤◌, min, Bool, true, false, cond, not, T, ltb, sym, refl, ap, ◌∙◌, subst, inl, inr, zero-le, le_trans, le_of_eq, le_refl, le_of_lt, add_assoc, mul-le-mul_right, suc-mul, mul_comm, eq-or-lt_of_le, mul-one, mul-div_cancel, sub-eq-zero_of_le, arith, ltb→lt, nltb→le, pow_pos, pow-add, shl_lt}
 use Prim.Native.Nat.{compare}
 use native.Mathlib.Nat.{min-eq_left, min-eq_right}
 use lib.Pow.{pow-lt}
-use lib.Ieee.{Float, nan, inf, fin, Format, prec, emax, low, hid, ones, top, up, down, size, odd, units, round, to_bits, is_nan, ne, fits}
+use lib.Ieee.{Float, nan, inf, fin, Format, prec, emax, low, hid, ones, top, up, down, size, odd, units, round, to_bits, is_nan, fits}
 use lib.Ieee.Digits.{size-le}
-use lib.Ieee.Compare.{nan_differs}
 use lib.Ieee.Fits.{round-fits, nan-fits, inf-fits, round_is, two, two-le_pos, nearest-le, down_pos}
 use lib.Ieee.Exact.{HasValue, odd_sign}
 use lib.Ieee.Nearest.{nearest-ge}
@@ -146,8 +145,13 @@ narrow_fits f nan = nan-fits f
 narrow_fits f (inf s) = inf-fits f s
 narrow_fits f (fin s m e) = round-fits f s (m * up e) (down e)
 
-pub equal_not_nan : (x : Float) → ne x x ≡ false → T (not (is_nan x))
-unfolding is_nan
-equal_not_nan nan h = absurd (true≢false (sym nan_differs ∙ h))
-equal_not_nan (inf s) h = tt
-equal_not_nan (fin s m e) h = tt
+-- a NaN narrows to a NaN, and nothing else does
+pub nan_narrows : (f : Format) → narrow_to f nan ≡ nan
+unfolding narrow_to
+nan_narrows f = refl
+
+pub narrow_not_nan : (f : Format) (x : Float) → T (not (is_nan x)) → T (not (is_nan (narrow_to f x)))
+unfolding narrow_to is_nan
+narrow_not_nan f nan h = h
+narrow_not_nan f (inf s) h = tt
+narrow_not_nan f (fin s m e) h = no_nan f s (m * up e) (down e)

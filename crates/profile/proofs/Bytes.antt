@@ -1,6 +1,6 @@
 -- Laws of `same_bytes`: it is true of equal lists alone, and it is the comparison of slices. Assumes nothing.
 use lib.Pointwise.{pointwise}
-use Rattle.std.proofs.Common.{◌≡◌, ℕ, ◌+◌, ◌<◌, ◌≤◌, Bool, true, false, ◌&&◌, eqb, List, [], ◌∷◌, length, get_or, drop, refl, ap, ap₂, add-one, drop_of_length-le, drop-cons, eq-eqb, eqb-true}
+use Rattle.std.proofs.Common.{◌≡◌, ℕ, Bool, true, false, ◌&&◌, eqb, List, [], ◌∷◌, refl, ap, ap₂, eq-eqb, eqb-true}
 use Rattle.profile.specs.Fields.{same_bytes}
 
 both_left : (a b : Bool) → (a && b) ≡ true → a ≡ true

@@ -1,6 +1,6 @@
 // The profile of a quantiser, its limits and its checks: module profile.rs of
 // fib-quant, without digest and message texts. specs/Checks.antt has the order, the
-// numbers and the values of the checks. log2 of the codebook size is handed in.
+// numbers and the values of the checks.
 // Public only for the checks of a refinement and of a report.
 #![tactic(auto)]
 
@@ -50,7 +50,6 @@ pub enum EmptyCellPolicy {
     FailClosed,
 }
 
-// The strings that are tested, schema and rotation algorithm, are handed in beside it.
 #[derive(Clone, Copy, Debug, PartialEq)]
 pub struct FibQuantProfile {
     pub ambient_dim: u32,
@@ -69,6 +68,15 @@ pub struct FibQuantProfile {
     pub lloyd_iterations: u32,
     pub training_samples: u32,
     pub empty_cell_policy: EmptyCellPolicy,
+}
+
+// A profile as it is handed in: its strings and log2 of the codebook size are tested and then not needed any more.
+#[derive(Clone, Copy)]
+pub struct GivenProfile<'a> {
+    pub profile: FibQuantProfile,
+    pub schema: &'a [u8],
+    pub rotation_algorithm: &'a [u8],
+    pub log2: f64,
 }
 
 impl FibQuantProfile {
@@ -109,36 +117,14 @@ impl FibQuantProfile {
             seed,
             log2,
         );
-        profile.validate(
-            b"fib_quant_profile_v1",
-            b"qr-gaussian-chacha8-sign-corrected-v1",
+        let given = GivenProfile {
+            profile,
+            schema: b"fib_quant_profile_v1",
+            rotation_algorithm: b"qr-gaussian-chacha8-sign-corrected-v1",
             log2,
-        )?;
+        };
+        given.validate()?;
         Ok(profile)
-    }
-
-    // Every check of the profile, in their order.
-    pub fn validate(
-        self,
-        schema: &[u8],
-        rotation_algorithm: &[u8],
-        log2: f64,
-    ) -> Result<(), Refusal>
-        ensures { outcome result ≡ validity self schema.now rotation_algorithm.now log2 }
-    {
-        let d = self.ambient_dim;
-        let k = self.block_dim;
-        let n = self.codebook_size;
-        checks::named(Field::Schema, schema, b"fib_quant_profile_v1")?;
-        checks::shape(d as u64, k as u64, n as u64)?;
-        checks::sizes(d, k, n)?;
-        checks::formats(self.norm_format, self.source_mode)?;
-        checks::named(
-            Field::RotationAlgorithm,
-            rotation_algorithm,
-            b"qr-gaussian-chacha8-sign-corrected-v1",
-        )?;
-        self.numbers(log2)
     }
 
     // The fields from the width on.
@@ -178,6 +164,30 @@ impl FibQuantProfile {
             });
         }
         Ok(self.ambient_dim / self.block_dim)
+    }
+}
+
+impl GivenProfile<'_> {
+    // Every check of the profile, in their order.
+    pub fn validate(self) -> Result<(), Refusal>
+        ensures { outcome result
+            ≡ validity self.entry.profile self.entry.schema.now self.entry.rotation_algorithm.now
+            self.entry.log2 }
+    {
+        let profile = self.profile;
+        let d = profile.ambient_dim;
+        let k = profile.block_dim;
+        let n = profile.codebook_size;
+        checks::named(Field::Schema, self.schema, b"fib_quant_profile_v1")?;
+        checks::shape(d as u64, k as u64, n as u64)?;
+        checks::sizes(d, k, n)?;
+        checks::formats(profile.norm_format, profile.source_mode)?;
+        checks::named(
+            Field::RotationAlgorithm,
+            self.rotation_algorithm,
+            b"qr-gaussian-chacha8-sign-corrected-v1",
+        )?;
+        profile.numbers(self.log2)
     }
 }
 

@@ -5,11 +5,11 @@ use mathlib.Core.Logic.{inl, inr}
 use Prim.Native.Nat.{ℕ, zero, suc, ◌+◌, ◌*◌, ◌/◌, ◌%◌, ◌^◌, ◌≤◌, ◌<◌, zero-le}
 use native.Mathlib.Nat.{le_trans, le_of_eq, le_of_lt, lt_of_lt_of_le, lt_of_not-le, not-le_of_lt, le_of_suc-le-suc, eq-zero-or-pos, mul-one, one-mul, zero-mul, mul_assoc, mul_left_comm, mul_right_comm, mul-le-mul_right, mul-pos, le_of_mul-le-mul_right, lt_of_mul-lt-mul_right, le-div_iff_mul-le, zero-lt-suc, two-mul}
 use native.Mathlib.Omega.{arith}
-use mathlib.Core.Bool.{Bool, true, false, ◌&&◌, cond, true≢false}
+use mathlib.Core.Bool.{not, Bool, true, false, ◌&&◌, cond, true≢false}
 use lib.Dec.{T, leb, ltb, eqb, ltb→lt, lit<}
 use lib.Arith.{lt_of_le-ne}
 use lib.Pow.{pow-add, pow_pos}
-use lib.Ieee.{Float, nan, inf, fin, Format, binary64, low, up, down, round, le, fits}
+use lib.Ieee.{is_nan, Float, nan, inf, fin, Format, binary64, low, up, down, round, le, fits}
 use lib.Ieee.Fits.{eq→eqb, and_r, down_pos, round-fits, nan-fits}
 use lib.Ieee.Exact.{HasValue}
 use lib.Ieee.Order.{round_mono}
@@ -28,6 +28,15 @@ sqrt_not_negative f (inf false) h = h
 sqrt_not_negative f (fin s zero e) h = h
 sqrt_not_negative f (fin true (suc m) e) h = absurd (true≢false h)
 sqrt_not_negative f (fin false (suc m) e) h = round_not_negative f _ _
+
+pub sqrt_no_nan : (f : Format) (x : Float) → NotNegative x → T (not (is_nan (sqrt_of f x)))
+unfolding is_nan
+sqrt_no_nan f x h = no_nan (sqrt_of f x) (sqrt_not_negative f x h)
+  where
+    no_nan : (y : Float) → NotNegative y → T (not (is_nan y))
+    no_nan nan n = n
+    no_nan (inf s) n = tt
+    no_nan (fin s m e) n = tt
 
 pub sqrt_fits : (f : Format) (x : Float) → T (fits f x) → T (fits f (sqrt_of f x))
 unfolding sqrt_of root_of

@@ -6,7 +6,7 @@ use native.Mathlib.Nat.{eq-or-lt_of_le, le_of_suc-le-suc, le_trans, le-suc, zero
 use native.Mathlib.Omega.{arith}
 use native.Mathlib.Numerals.{add-one}
 use mathlib.Core.List.{List}
-use lib.ListN.{length, get_or, set, replicate, length-set, length-replicate, get_or-replicate}
+use lib.ListN.{length, get_or, set, length-set}
 use lib.Seq.{get_or-set_same, get_or-set_other, ext_get_or}
 use Rattle.slices.specs.Lists.{tabulate, patched}
 use Rattle.slices.proofs.TabulateLaw.{length-tabulate, get_d_tabulate}
@@ -63,9 +63,3 @@ module _ {A : Type 0} where
       let L = length-patched xs 0 (length xs) f in
       ext_get_or d (patched xs 0 (length xs) f) (tabulate (length xs) f) (L ∙ sym (length-tabulate (length xs) f))
       (λ i l. ap (λ (z : ℕ). get_or (patched xs 0 (length xs) f) z d) (sym (zero-add i)) ∙ patched_inside xs 0 (length xs) f i d (omega arith) (omega arith) ∙ sym (get_d_tabulate (length xs) f i d (omega arith)))
-
-  pub patched_same : (xs : List A) (a d : A) → patched xs 0 (length xs) (λ i. a) ≡ replicate (length xs) a
-  patched_same xs a d =
-      let L = length-patched xs 0 (length xs) (λ i. a) in
-      ext_get_or d (patched xs 0 (length xs) (λ i. a)) (replicate (length xs) a) (L ∙ sym (length-replicate (length xs) a))
-      (λ i l. ap (λ (z : ℕ). get_or (patched xs 0 (length xs) (λ j. a)) z d) (sym (zero-add i)) ∙ patched_inside xs 0 (length xs) (λ j. a) i d (omega arith) (omega arith) ∙ sym (get_or-replicate (length xs) i a d (omega arith)))

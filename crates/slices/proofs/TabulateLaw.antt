@@ -6,8 +6,8 @@ use Prim.Native.Nat.{ℕ, zero, suc, ◌+◌, ◌≤◌, ◌<◌}
 use native.Mathlib.Omega.{arith}
 use native.Mathlib.Numerals.{add-one}
 use mathlib.Core.List.{List, [], ◌∷◌, append-nil}
-use lib.ListN.{length, get_or, set, drop, replicate, drop_of_length-le}
-use lib.Seq.{drop_at, ext_get_or}
+use lib.ListN.{length, get_or, set, replicate, drop_of_length-le}
+use lib.Seq.{ext_get_or}
 use Rattle.slices.specs.Lists.{tabulate, filled}
 
 module _ {A : Type 0} where
@@ -51,13 +51,6 @@ module _ {A : Type 0} where
   get_d_filled n f [] d h = absurd (omega arith)
   get_d_filled zero f (a ∷ l) d h = refl
   get_d_filled (suc n) f (a ∷ l) d h = get_d_filled n (λ (i : ℕ). f (suc i)) l d (omega arith)
-
-  -- filling again what is filled already changes nothing
-  filled_twice : (n : ℕ) (f : ℕ → A) (l : List A) → filled n f l ≡ filled n f (filled n f l)
-  filled_twice n f l = rw (drop_at (tabulate n f) (drop n l) n (length-tabulate n f))
-
-  pub filled_again : (n : ℕ) (f : ℕ → A) (l k : List A) → k ≡ filled n f l → k ≡ filled n f k
-  filled_again n f l k e = rw e (filled_twice n f l)
 
   -- all of them
   pub filled_all : (n : ℕ) (f : ℕ → A) (l : List A) → length l ≤ n → filled n f l ≡ tabulate n f

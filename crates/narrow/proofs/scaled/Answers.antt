@@ -1,7 +1,7 @@
 -- `narrow::scaled` meets its contract: the product is exact, and the number that it is has one float in binary32.
 -- Assumes nothing.
-use Rattle.std.proofs.Common.{◌≡◌, ℕ, ◌+◌, ◌*◌, ◌%◌, ◌^◌, ◌<◌, Bool, false, not, T, pos, sym, refl, ap, ◌∙◌, subst, le_refl, lt_of_lt_of_le, arith, lit<, lit≤, le→leb, pow_pos, pow_mono, pow-add, shl_lt, le-ltb}
-use lib.Ieee.{binary32, of_int, of_bits, odd, mul, round, nan_bits, in_float}
+use Rattle.std.proofs.Common.{◌≡◌, ℕ, ◌+◌, ◌*◌, ◌%◌, ◌^◌, ◌<◌, Bool, false, not, T, pos, sym, refl, ap, ◌∙◌, subst, le_refl, lt_of_lt_of_le, arith, lit<, lit≤, pow_pos, pow_mono, pow-add, shl_lt, le-ltb}
+use lib.Ieee.{binary32, of_int, of_bits, odd, mul, round, nan_bits}
 use lib.Ieee.Back.{round_whole}
 use lib.Ieee.Bits.{nan_bits_above}
 use lib.Ieee.Exact.{HasValue, odd_sign, round_exact}
@@ -40,10 +40,6 @@ module _ (q k : ℕ) (Q : q < 2048) (K : k < 30) where
       (round-fits binary32 false w (2 ^ 149)) (odd-fits binary32 11 false q j Q (omega arith) small)
       (round_exact binary32 false w (2 ^ 149) q j (pow_pos 149) (omega arith) small refl) (odd_sign 11 false q j 149)
       ∙ odd_shift 11 false q k 24 125
-
-pub int_to_float-result : goal.int_to_float-result
-unfolding in_float
-int_to_float-result c = le→leb c.args.q 16777216 (omega arith)
 
 pub float_from_bits-result : goal.float_from_bits-result
 float_from_bits-result c = subst (λ (b : Bool). T (not b)) (sym (no_nan_pattern c.args.q c.args.k (omega arith) (omega arith))) tt

