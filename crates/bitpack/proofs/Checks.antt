@@ -1,6 +1,6 @@
 -- Laws of the checks: the first index above a bound, what a size that is completed says, and the answers that follow.
 -- Assumes nothing.
-use Prim.Native.Nat.{ℕ, zero, suc, ◌+◌, ◌*◌, ◌-◌, ◌^◌, ◌<◌, ◌≤◌}
+use Prim.Native.Nat.{ℕ, zero, suc, ◌+◌, ◌*◌, ◌-◌, ◌%◌, ◌^◌, ◌<◌, ◌≤◌}
 use mathlib.Core.Path.{◌≡◌, refl, sym, ◌∙◌}
 use mathlib.Core.Bool.{Bool, true, false, cond}
 use mathlib.Core.List.{List, [], ◌∷◌}
@@ -9,14 +9,17 @@ use Rattle.std.specs.Option.{option_map_or}
 use Rattle.std.specs.Prelude.{None, Some}
 use mathlib.Core.Logic.{inl, inr, ⊎_elim}
 use native.Mathlib.Omega.{arith}
+use native.Mathlib.Nat.{lt_of_lt_of_le}
+use lib.Pow.{pow_pos, pow_mono, ones_lt, lt_of_le_ones}
 use lib.ListN.{length, get_or}
-use lib.Dec.{ltb}
+use lib.Dec.{ltb, leb}
 use borrow.Author.Tests.{ltb-true, ltb-false, leb-true, eq-eqb, not-false, le-leb, le-ltb}
-use Rattle.error.specs.Numbers.{Value, Outcome, completed, refused, whole, if_completed}
+use Rattle.error.specs.Numbers.{Outcome, completed, refused, whole}
 use Rattle.error.proofs.Outcomes.{both, never, completed_same, passed}
 use Rattle.bitpack.specs.Layout.{bytes_for}
 use Rattle.bitpack.specs.Answers.{packed_size, in_range, packable}
 use Rattle.bitpack.specs.Range.{Ranged}
+use Rattle.bitpack.proofs.Steps.{power}
 
 pub size_is : (count w : ℕ) → 1 ≤ w → w ≤ 32 → count * w + 7 < 2 ^ 64 → packed_size count w ≡ completed (bytes_for (count * w))
 unfolding packed_size
@@ -62,36 +65,46 @@ range_all xs bound e i = ⊎_elim (λ h. h.1 i) (λ h. absurd (never _ _ _ (sym 
 
 -- what a size that is completed says
 pub record Fitting (count w size : ℕ) : Type 0 where
-  pub wide : 1 ≤ w
   pub narrow : w ≤ 32
   pub fits : count * w + 7 < 2 ^ 64
   pub is : size ≡ bytes_for (count * w)
 
-pub size_completed : (count w size : ℕ) → packed_size count w ≡ completed size → Fitting count w size
+pub size_completed : (count w size : ℕ) → completed size ≡ packed_size count w → Fitting count w size
 unfolding packed_size
 size_completed count w size e =
-    let width = passed _ _ _ _ size e in
+    let width = passed _ _ _ _ size (sym e) in
     let bits = passed _ _ _ _ size width.1 in
-    let within = both _ _ (not-false _ width.0) in
+    let within = both (leb 1 w) (leb w 32) (not-false _ width.0) in
     let few = ltb-false (2 ^ 64 - 1) (count * w + 7) bits.0 in
-    record { wide = leb-true 1 w within.0; narrow = leb-true w 32 within.1; fits = omega arith; is = sym (completed_same _ _ bits.1) }
+    record { narrow = leb-true w 32 within.1; fits = omega arith; is = sym (completed_same _ _ bits.1) }
 
--- what a buffer holds after a refusal, and after what was completed
-pub unchanged : {B : Type 0} {o : Outcome Unit} {n : ℕ} {values : List Value} (new old : B) → o ≡ refused n values
-    → (refused n values ≡ o) × (old ≡ if_completed o new old)
-unchanged new old e = (sym e, rw e)
+-- the largest index of width w, as the program finds it
+abbrev pub largest : ℕ → ℕ
+largest w = 1 * 2 ^ w % 18446744073709551616 - 1
 
-pub written : {B : Type 0} {o : Outcome Unit} (new old : B) → o ≡ completed tt → (completed tt ≡ o) × (new ≡ if_completed o new old)
-written new old e = (sym e, rw e)
+largest_is : (w : ℕ) → w ≤ 32 → largest w ≡ 2 ^ w - 1
+largest_is w l = rw (power w l)
 
--- the answer of packing, once the output has room
-pub pack_range : (xs : List ℕ) (w room size : ℕ) → packed_size (length xs) w ≡ completed size → room ≡ size → packable xs w room ≡ in_range xs (2 ^ w - 1)
-pack_range xs w room size e h = rw (e, eq-eqb room size h)
+pub power_positive : (w : ℕ) → w ≤ 32 → 1 ≤ 1 * 2 ^ w % 18446744073709551616
+power_positive w l = rw (power w l) (pow_pos w)
 
--- what the scan up to the program's bound says of the indices
-pub pack_found : (xs : List ℕ) (w bound index : ℕ) → bound ≡ 2 ^ w - 1 → Some index ≡ find (ltb bound) xs
-    → in_range xs (2 ^ w - 1) ≡ refused 11 (whole index ∷ whole bound ∷ [])
-pack_found xs w bound index e h = rw (← e, range_found xs bound, ← h)
+pub largest_fits : (w : ℕ) → w ≤ 32 → largest w < 2 ^ 32
+largest_fits w l = rw (power w l) (lt_of_lt_of_le (ones_lt w) (pow_mono {i = w} {j = 32} l))
 
-pub pack_none : (xs : List ℕ) (w bound : ℕ) → bound ≡ 2 ^ w - 1 → None ≡ find (ltb bound) xs → in_range xs (2 ^ w - 1) ≡ completed tt
-pack_none xs w bound e h = rw (← e, range_found xs bound, ← h)
+-- what the scan up to that index says, once the output has room
+module _ (xs : List ℕ) (w size room : ℕ) (sized : completed size ≡ packed_size (length xs) w) (h : room ≡ size) where
+  scanned : in_range xs (largest w) ≡ packable xs w room
+  scanned = rw (← sized, eq-eqb room size h, largest_is w (size_completed _ _ _ sized).narrow)
+
+  pub pack_refused : (index : ℕ) → Some index ≡ find (ltb (largest w)) xs
+      → refused 11 (whole index ∷ whole (largest w) ∷ []) ≡ packable xs w room
+  pack_refused index e = rw (← scanned, range_found xs (largest w), ← e)
+
+  none_above : None ≡ find (ltb (largest w)) xs → in_range xs (largest w) ≡ completed tt
+  none_above e = rw (range_found xs (largest w), ← e)
+
+  pub pack_done : None ≡ find (ltb (largest w)) xs → completed tt ≡ packable xs w room
+  pack_done e = sym (none_above e) ∙ scanned
+
+  pub all_fit : None ≡ find (ltb (largest w)) xs → (i : ℕ) → get_or xs i 0 < 2 ^ w
+  all_fit e i = lt_of_le_ones w (rw (largest_is w (size_completed _ _ _ sized).narrow) at (range_all xs _ (none_above e) i))

@@ -10,11 +10,12 @@ use lib.ListN.{length, get_or, set, length-append, length-drop}
 use lib.Pow.{pow-add, shl_exact}
 use lib.Bits.{bit_and, and_mask}
 use Rattle.slices.specs.Lists.{filled}
-use Rattle.slices.proofs.TabulateLaw.{length-tabulate, filled_with, filled_again}
+use Rattle.slices.proofs.TabulateLaw.{length-tabulate, filled_with}
 use Rattle.bitpack.specs.Layout.{field, stream_bit, byte_of, bytes_for}
-use Rattle.bitpack.specs.Cursor.{Reading, ReaderAt, Pullable, Writing, WriterAt, Pushable, Finishable}
+use Rattle.bitpack.specs.Cursor.{Reading, ReaderAt, Pullable, PulledAt, Writing, WriterAt, Pushable, Finishable}
 use Rattle.bitpack.specs.declared.BitReader.{BitReader}
 use Rattle.bitpack.specs.declared.BitWriter.{BitWriter}
+use Rattle.bitpack.specs.declared.packed.PackedIndices.{PackedIndices}
 use Rattle.bitpack.proofs.Fields.{field_zero, field_add, field_lt, field_mod, field_div}
 use Rattle.bitpack.proofs.Packing.{stream_binary, field_whole}
 
@@ -25,7 +26,7 @@ shifted a k l h = shl_exact 32 k 64 l (omega arith)
 pub power : (w : ℕ) → w ≤ 32 → 1 * 2 ^ w % 18446744073709551616 ≡ 2 ^ w
 power w l = shl_exact {a = 1} 1 w 64 (omega arith) (omega arith) ∙ one-mul (2 ^ w)
 
-pub masked : (acc w : ℕ) → w ≤ 32 → bit_and acc (1 * 2 ^ w % 18446744073709551616 - 1) ≡ acc % 2 ^ w
+masked : (acc w : ℕ) → w ≤ 32 → bit_and acc (1 * 2 ^ w % 18446744073709551616 - 1) ≡ acc % 2 ^ w
 masked acc w l = rw (power w l) (and_mask acc w)
 
 -- bits above those held make a value below the next power
@@ -51,12 +52,12 @@ reading_load bytes p at acc have r small =
     }
 
 -- w bits, taken off the low end of those held
-pub reading_value : (bytes : List ℕ) (p at acc have w : ℕ) → Reading bytes p at acc have → w ≤ have → acc % 2 ^ w ≡ field (stream_bit bytes) p w
+reading_value : (bytes : List ℕ) (p at acc have w : ℕ) → Reading bytes p at acc have → w ≤ have → acc % 2 ^ w ≡ field (stream_bit bytes) p w
 reading_value bytes p at acc have w r l =
     let e : have ≡ w + (have - w) = omega arith in
     rw (r.held, e) (field_mod (stream_bit bytes) p w (have - w) (stream_binary bytes))
 
-pub reading_rest : (bytes : List ℕ) (p at acc have w : ℕ) → Reading bytes p at acc have → w ≤ have → Reading bytes (p + w) at (acc / 2 ^ w) (have - w)
+reading_rest : (bytes : List ℕ) (p at acc have w : ℕ) → Reading bytes p at acc have → w ≤ have → Reading bytes (p + w) at (acc / 2 ^ w) (have - w)
 reading_rest bytes p at acc have w r l =
     let place = r.place in
     let e : w + (have - w) ≡ have = omega arith in
@@ -68,16 +69,36 @@ reading_rest bytes p at acc have w r l =
 pub reading_small : (bytes : List ℕ) (p at acc have : ℕ) → Reading bytes p at acc have → acc < 2 ^ have
 reading_small bytes p at acc have r = rw r.held (field_lt (stream_bit bytes) p have (stream_binary bytes))
 
--- what a pull asks, where the reader stands
-pub pullable : (bytes : List ℕ) (p w : ℕ) (reader : BitReader) → ReaderAt bytes p reader → w ≤ 32 → p + w ≤ 8 * length bytes → Pullable bytes w reader
-pullable bytes p w reader r l enough =
+-- a value taken off below the bits that are held is the next w bits
+pub pulled : {bytes : List ℕ} {p w : ℕ} {reader : BitReader} → ReaderAt bytes p reader → (at acc have : ℕ)
+    → ((p : ℕ) → Reading reader.bytes.now p reader.at reader.acc reader.have → Reading reader.bytes.now p at acc have)
+    → w ≤ 32 → w ≤ have → have < w + 8
+    → PulledAt bytes p w (bit_and acc (1 * 2 ^ w % 18446744073709551616 - 1))
+    (record { bytes = reader.bytes; at = at; acc = acc / 2 ^ w; have = have - w })
+pulled {bytes} {p} {w} {reader} r at acc have loaded narrow l few =
+    let now : Reading bytes p at acc have = rw r.of at (loaded p (rw r.of r.reading)) in
+    record {
+      value_is = rw (masked acc w narrow) (reading_value bytes p at acc have w now l);
+      next = record { of = r.of; few = omega arith; reading = reading_rest bytes p at acc have w now l };
+    }
+
+-- along a packing, before index i of it: what a pull asks
+pub pullable : (packed : PackedIndices) (i : ℕ) {reader : BitReader} → ReaderAt packed.bytes.now (i * packed.width) reader → i < packed.count
+    → Pullable packed.width reader
+pullable packed i {reader} r l =
     let place = r.reading.place in
+    let last = next_within i packed.count packed.width l in
     record {
       few = r.few;
-      small = reading_small bytes p reader.at reader.acc reader.have r.reading;
-      narrow = l;
-      enough = omega arith;
+      small = reading_small packed.bytes.now (i * packed.width) reader.at reader.acc reader.have r.reading;
+      narrow = packed.narrow;
+      enough = rw r.of (omega (arith, packed.whole));
     }
+
+-- and where it leaves the reader: before the next index
+pub next_index : (packed : PackedIndices) (i : ℕ) {value : ℕ} {reader : BitReader} → PulledAt packed.bytes.now (i * packed.width) packed.width value reader
+    → ReaderAt packed.bytes.now ((i + 1) * packed.width) reader
+next_index packed i r = rw (next_place i packed.width) r.next
 
 -- a field added above the bits that are held
 pub writing_add : (f : ℕ → ℕ) (p : ℕ) (old out : List ℕ) (at acc have value w : ℕ) → Writing f p old out at acc have → value ≡ field f p w
@@ -112,22 +133,6 @@ writing_put f p old out at acc have r l h =
 pub writing-length : (f : ℕ → ℕ) (p : ℕ) (old out : List ℕ) (at acc have : ℕ) → Writing f p old out at acc have → length out ≡ length old
 writing-length f p old out at acc have r = rw (r.done, length-append, length-tabulate, length-drop) (omega (arith, r.within))
 
--- a writer that stands over what was there before stands over what is there now
-pub stands_anew : {f : ℕ → ℕ} {p : ℕ} {old out : List ℕ} {writer : BitWriter} → WriterAt f p old out writer → WriterAt f p out out writer
-stands_anew {f} {p} {old} {out} {writer} w =
-    let v = w.writing in
-    let same = writing-length f p old out writer.at writer.acc writer.have v in
-    record {
-      few = w.few;
-      writing = record {
-        binary = v.binary;
-        place = v.place;
-        held = v.held;
-        within = omega (arith, v.within);
-        done = filled_again writer.at (byte_of f) old out v.done;
-      };
-    }
-
 pub writing_small : (f : ℕ → ℕ) (p : ℕ) (old out : List ℕ) (at acc have : ℕ) → Writing f p old out at acc have → acc < 2 ^ have
 writing_small f p old out at acc have r = rw r.held (field_lt f (8 * at) have r.binary)
 
@@ -157,12 +162,17 @@ finishable f p old out writer r room =
     }
 
 -- the end of a stream that has no bit set from p on: the last byte is what is held
-pub finish_part : (f : ℕ → ℕ) (p : ℕ) (old out : List ℕ) (at acc have : ℕ) → Writing f p old out at acc have → 0 < have → have < 8 → at < length old
-    → ((j : ℕ) → p ≤ j → f j ≡ 0) → set out at acc ≡ filled (bytes_for p) (byte_of f) old
-finish_part f p old out at acc have r pos few h clear =
+pub finish_part : (f : ℕ → ℕ) (p : ℕ) (old out : List ℕ) (writer : BitWriter) → WriterAt f p old out writer → 0 < writer.have → 8 * writer.at + writer.have ≤ 8 * length out
+    → ((j : ℕ) → p ≤ j → f j ≡ 0) → set out writer.at writer.acc ≡ filled (bytes_for p) (byte_of f) old
+finish_part f p old out writer w pos room clear =
+    let at = writer.at in
+    let have = writer.have in
+    let r = w.writing in
     let place = r.place in
+    let few = w.few in
+    let h : at < length old = omega (arith, writing-length f p old out at writer.acc have r) in
     let e : bytes_for p ≡ at + 1 = omega arith in
     let n : have + (8 - have) ≡ 8 = omega arith in
     let none : field f (8 * at + have) (8 - have) ≡ 0 = field_zero f (8 * at + have) (8 - have) (λ j l. clear (8 * at + have + j) (omega arith)) in
     let whole : field f (8 * at) 8 ≡ field f (8 * at) have + field f (8 * at + have) (8 - have) * 2 ^ have = rw n at (field_add f (8 * at) have (8 - have)) in
-    rw (e, r.done) (filled_with at (at + 1) (byte_of f) old acc h refl (r.held ∙ sym (rw none at whole ∙ omega arith)))
+    rw (e, r.done) (filled_with at (at + 1) (byte_of f) old writer.acc h refl (r.held ∙ sym (rw none at whole ∙ omega arith)))

@@ -3,7 +3,6 @@ use Rattle.std.specs.Prelude.{ℕ, ◌+◌, ◌*◌, ◌≤◌, ◌<◌, ◌^◌
 use Rattle.slices.specs.Lists.{filled}
 use Rattle.bitpack.specs.declared.BitReader.{BitReader}
 use Rattle.bitpack.specs.declared.BitWriter.{BitWriter}
-use Rattle.bitpack.specs.declared.Pulled.{Pulled}
 use Rattle.bitpack.specs.Layout.{field, stream_bit, byte_of}
 
 -- `have` bits from p on are held, and `at` is the byte after them
@@ -13,20 +12,21 @@ pub record Reading (bytes : List ℕ) (p at acc have : ℕ) : Type 0 where
 
 -- the reader stands at bit p: for indices of width w, at i * w before index i
 pub record ReaderAt (bytes : List ℕ) (p : ℕ) (reader : BitReader) : Type 0 where
+  pub of : reader.bytes.now ≡ bytes
   pub few : reader.have < 8
   pub reading : Reading bytes p reader.at reader.acc reader.have
 
 -- what a pull of w bits asks
-pub record Pullable (bytes : List ℕ) (w : ℕ) (reader : BitReader) : Type 0 where
+pub record Pullable (w : ℕ) (reader : BitReader) : Type 0 where
   pub few : reader.have < 8
   pub small : reader.acc < 2 ^ reader.have
   pub narrow : w ≤ 32
-  pub enough : 8 * reader.at + w ≤ 8 * length bytes + reader.have
+  pub enough : 8 * reader.at + w ≤ 8 * length reader.bytes.now + reader.have
 
 -- what a pull of w bits at p gives: their value, and the reader after them
-pub record PulledAt (bytes : List ℕ) (p w : ℕ) (pulled : Pulled) : Type 0 where
-  pub value : pulled.value ≡ field (stream_bit bytes) p w
-  pub next : ReaderAt bytes (p + w) pulled.next
+pub record PulledAt (bytes : List ℕ) (p w value : ℕ) (reader : BitReader) : Type 0 where
+  pub value_is : value ≡ field (stream_bit bytes) p w
+  pub next : ReaderAt bytes (p + w) reader
 
 -- of the first p bits of the stream f, those of the first `at`
 -- bytes are written, over `old`, and the other `have` are held

@@ -1,33 +1,31 @@
 // Indices of a fixed width packed into bytes, low bit first, and read back.
 #![tactic(auto)]
 
+mod packed;
+
 ghost use Rattle.std.specs.Prelude.{◌≡◌, List, ℕ, ◌+◌, ◌*◌, ◌-◌, ◌^◌, ◌≤◌, ◌<◌, length, get_or, nat_lt};
 ghost use Rattle.std.specs.List.{find};
 ghost use Rattle.error.specs.Numbers.{outcome, if_completed};
 ghost use Rattle.slices.specs.Lists.{filled};
 ghost use Rattle.bitpack.specs.Layout.{field, byte_of, bytes_for, packed_bytes, unpacked_indices, padding_from};
 ghost use Rattle.bitpack.specs.Answers.{packed_size, packable, unpackable};
+ghost use Rattle.bitpack.specs.Packed.{indices_in};
 ghost use Rattle.bitpack.specs.Cursor.{ReaderAt, Pullable, PulledAt, WriterAt, Pushable, Finishable};
 
 use error::{PackingSite, Refusal, Slice};
+pub use packed::PackedIndices;
 
-// A place in a packed byte string, made only by `new` and `pull`: `at` is the
+// A place in a packed byte string, made by `new` and moved by `pull`: `at` is the
 // next byte to read, `acc` the `have` bits that were read and not yet handed out.
 #[derive(Clone, Copy)]
-pub struct BitReader {
+pub struct BitReader<'a> {
+    bytes: &'a [u8],
     at: usize,
     acc: u64,
     have: u64,
 }
 
-// A value and the place after it.
-#[derive(Clone, Copy)]
-pub struct Pulled {
-    pub value: u32,
-    pub next: BitReader,
-}
-
-// A place in a byte string that is being packed, made only by `new` and
+// A place in a byte string that is being packed, made by `new` and moved by
 // `push`: `at` is the next byte to write, `acc` the `have` bits that await it.
 #[derive(Clone, Copy)]
 pub struct BitWriter {
@@ -36,12 +34,14 @@ pub struct BitWriter {
     have: u64,
 }
 
-impl BitReader {
+impl<'a> BitReader<'a> {
     // At the start of a byte string.
-    pub fn new() -> BitReader
-        ensures { (bytes : List ℕ) → ReaderAt bytes 0 result }
+    #[tactic(auto, unfolding(crate::specs::Layout::field, crate::specs::Layout::bits))]
+    pub fn new(bytes: &'a [u8]) -> BitReader<'a>
+        ensures { ReaderAt bytes.now 0 result }
     {
         BitReader {
+            bytes,
             at: 0,
             acc: 0,
             have: 0,
@@ -49,11 +49,14 @@ impl BitReader {
     }
 
     // The next `width` bits. Public only for the codec.
-    pub fn pull(self, bytes: &[u8], width: u8) -> Pulled
-        requires { Pullable bytes.now width self }
-        ensures { (p : ℕ) → ReaderAt bytes.now p self → PulledAt bytes.now p width result }
+    #[tactic(auto, using(crate::proofs::Steps::shifted, crate::proofs::Steps::load_small, crate::proofs::Steps::reading_load))]
+    pub fn pull(&mut self, width: u8) -> u32
+        requires { Pullable width self.old }
+        ensures { (bytes : List ℕ) (p : ℕ) → ReaderAt bytes p self.old
+            → PulledAt bytes p width result self.new }
     {
         let w = width as u64;
+        let bytes = self.bytes;
         let mut at = self.at;
         let mut acc = self.acc;
         let mut have = self.have;
@@ -65,20 +68,16 @@ impl BitReader {
         }
         let mask = (1u64 << w) - 1;
         let value = (acc & mask) as u32;
-        let rest = acc >> w;
-        Pulled {
-            value,
-            next: BitReader {
-                at,
-                acc: rest,
-                have: have - w,
-            },
-        }
+        self.at = at;
+        self.acc = acc >> w;
+        self.have = have - w;
+        value
     }
 }
 
 impl BitWriter {
     // At the start of a stream of bits, with nothing written.
+    #[tactic(auto, unfolding(crate::specs::Layout::field, crate::specs::Layout::bits, slices::specs::Lists::tabulate))]
     pub fn new() -> BitWriter
         ensures { (f : ℕ → ℕ) (old : List ℕ) → ((j : ℕ) → f j < 2) → WriterAt f 0 old old result }
     {
@@ -90,11 +89,11 @@ impl BitWriter {
     }
 
     // `value` as `width` bits, after what was pushed before. Public only for the codec.
-    pub fn push(self, value: u32, width: u8, out: &mut [u8]) -> BitWriter
-        requires { Pushable out.old value width self }
+    pub fn push(&mut self, value: u32, width: u8, out: &mut [u8])
+        requires { Pushable out.old value width self.old }
         ensures { (f : ℕ → ℕ) (p : ℕ) (old : List ℕ)
-            → WriterAt f p old out.old self → value ≡ field f p width
-            → WriterAt f (p + width) old out.new result }
+            → WriterAt f p old out.old self.old → value ≡ field f p width
+            → WriterAt f (p + width) old out.new self.new }
     {
         let w = width as u64;
         let mut at = self.at;
@@ -109,10 +108,13 @@ impl BitWriter {
             have -= 8;
             at += 1;
         }
-        BitWriter { at, acc, have }
+        self.at = at;
+        self.acc = acc;
+        self.have = have;
     }
 
     // The last byte, if only a part of it was pushed. Public only for the codec.
+    #[tactic(auto, using(crate::proofs::Steps::finish_part))]
     pub fn finish(self, out: &mut [u8])
         requires { Finishable out.old self }
         ensures { (f : ℕ → ℕ) (p : ℕ) (old : List ℕ)
@@ -152,18 +154,20 @@ fn first_above(indices: &[u32], bound: u32) -> Option<u32>
 
 // The packing of indices that all fit, into a buffer of its length.
 fn write_indices(indices: &[u32], width: u8, output: &mut [u8])
-    requires { (width ≤ 32) × ((i : ℕ) → get_or indices.now i 0 < 2 ^ width)
-        × (length output.old ≡ bytes_for (length indices.now * width)) }
+    requires narrow { width ≤ 32 }
+    requires fits { (i : ℕ) → get_or indices.now i 0 < 2 ^ width }
+    requires sized { length output.old ≡ bytes_for (length indices.now * width) }
     ensures { output.new ≡ packed_bytes indices.now width }
 {
     let mut writer = BitWriter::new();
     for index in indices {
-        writer = writer.push(*index, width, output);
+        writer.push(*index, width, output);
     }
     writer.finish(output);
 }
 
 // The packing of the indices into the output, which has its length.
+#[tactic(auto, using(crate::proofs::Checks::size_completed, crate::proofs::Checks::power_positive, crate::proofs::Checks::largest_fits, crate::proofs::Checks::pack_refused, crate::proofs::Checks::pack_done))]
 pub fn pack_indices(indices: &[u32], width: u8, output: &mut [u8]) -> Result<(), Refusal>
     ensures { let o = packable indices.now width (length output.old) in
         (outcome result ≡ o)
@@ -183,6 +187,7 @@ pub fn pack_indices(indices: &[u32], width: u8, output: &mut [u8]) -> Result<(),
 
 // The value of the bits after the first `total`, in a byte string
 // of the length that these take. Public only for the codec.
+#[tactic(auto, using(crate::proofs::Packing::padding_none, crate::proofs::Packing::padding_last))]
 pub fn padding(bytes: &[u8], total: u64) -> u64
     requires { length bytes.now ≡ bytes_for total }
     ensures { result ≡ padding_from bytes.now total }
@@ -195,21 +200,21 @@ pub fn padding(bytes: &[u8], total: u64) -> u64
     (bytes[last] as u64) >> used
 }
 
-// As many indices as the output holds, from bytes that have them all.
-fn read_indices(bytes: &[u8], width: u8, output: &mut [u32])
-    requires { (width ≤ 32) × (length output.old * width ≤ 8 * length bytes.now) }
-    ensures { output.new ≡ unpacked_indices bytes.now (length output.old) width }
+// The packed indices into the output, which has room for just these.
+#[tactic(auto, using(crate::proofs::Steps::pullable, crate::proofs::Steps::next_index, slices::proofs::TabulateLaw::filled_with), unfolding(slices::specs::Lists::tabulate))]
+fn read_indices(packed: PackedIndices<'_>, output: &mut [u32])
+    requires { length output.old ≡ packed.count }
+    ensures { output.new ≡ indices_in packed.entry }
 {
-    let mut reader = BitReader::new();
+    let mut reader = BitReader::new(packed.bytes);
     for index in output.iter_mut() {
-        let pulled = reader.pull(bytes, width);
-        *index = pulled.value;
-        reader = pulled.next;
+        *index = reader.pull(packed.width);
     }
 }
 
 // The `count` indices of a packing into the output, which has room
 // for just these. A packing with a padding bit set is refused.
+#[tactic(auto, using(crate::proofs::Checks::size_completed))]
 pub fn unpack_indices(
     bytes: &[u8],
     count: u64,
@@ -232,6 +237,11 @@ pub fn unpack_indices(
     if output.len() as u64 != count {
         return Err(Refusal::SliceLength(Slice::Output));
     }
-    read_indices(bytes, width, output);
+    let packed = PackedIndices {
+        bytes,
+        width,
+        count: output.len(),
+    };
+    read_indices(packed, output);
     Ok(())
 }

@@ -51,12 +51,6 @@ field bs at n h room =
     let b = part_bytes bs at n h room in
     subst (λ (m : ℕ). bytes_of m (number_of (take n (drop at bs))) ≡ take n (drop at bs)) b.0 (bytes_of_number (take n (drop at bs)) b.1)
 
-pub count_bytes : (bs : List ℕ) → 11 ≤ length bs → take 4 (drop 5 bs) ≡ get_or bs 5 0 ∷ get_or bs 6 0 ∷ get_or bs 7 0 ∷ get_or bs 8 0 ∷ []
-count_bytes bs h = rw (drop-cons bs 5 0 (omega arith), drop-cons bs 6 0 (omega arith), drop-cons bs 7 0 (omega arith), drop-cons bs 8 0 (omega arith))
-
-pub norm_length_bytes : (bs : List ℕ) → 11 ≤ length bs → take 2 (drop 9 bs) ≡ get_or bs 9 0 ∷ get_or bs 10 0 ∷ []
-norm_length_bytes bs h = rw (drop-cons bs 9 0 (omega arith), drop-cons bs 10 0 (omega arith))
-
 -- ---- what parsing asks
 
 module _ (bs : List ℕ) where

@@ -4,7 +4,7 @@
 ghost use Rattle.std.specs.Prelude.{◌≡◌, ◌++◌, ◌+◌, ◌*◌, ◌≤◌, ◌<◌, length, take, drop};
 ghost use Rattle.error.specs.Numbers.{outcome, if_completed};
 ghost use Rattle.bitpack.specs.Layout.{bytes_for};
-ghost use Rattle.compact.specs.Frame.{header, frame_of, magic_in, count_in, norm_length_in};
+ghost use Rattle.compact.specs.Frame.{header, frame_of};
 ghost use Rattle.compact.specs.Frame.{parsed, writing, outcome_of, Within};
 
 use error::{FrameSite, Refusal, Slice};
@@ -22,7 +22,7 @@ pub struct CompactFrame {
     pub norm_len: u16,
 }
 
-// Copies part into output from the place at on. Public only for the encoder's crate.
+// Copies part into output from the place at on. Public only for who writes a frame in place.
 pub fn write_part(part: &[u8], output: &mut [u8], at: usize)
     requires { at + length part.now ≤ length output.old }
     ensures { output.new
@@ -74,29 +74,6 @@ pub fn write_compact(
     Ok(())
 }
 
-fn has_magic(bytes: &[u8]) -> bool
-    requires { 11 ≤ length bytes.now }
-    ensures { result ≡ magic_in bytes.now }
-{
-    bytes.starts_with(b"FB1")
-}
-
-#[tactic(auto, using(crate::proofs::FrameLaws::count_bytes), unfolding(crate::specs::Frame::number_of))]
-fn read_count(bytes: &[u8]) -> u32
-    requires { 11 ≤ length bytes.now }
-    ensures { result ≡ count_in bytes.now }
-{
-    u32::from_le_bytes([bytes[5], bytes[6], bytes[7], bytes[8]])
-}
-
-#[tactic(auto, using(crate::proofs::FrameLaws::norm_length_bytes), unfolding(crate::specs::Frame::number_of))]
-fn read_norm_len(bytes: &[u8]) -> u16
-    requires { 11 ≤ length bytes.now }
-    ensures { result ≡ norm_length_in bytes.now }
-{
-    u16::from_le_bytes([bytes[9], bytes[10]])
-}
-
 // The bytes that count indices of width bits take.
 fn packed_length(width: u8, count: u32) -> usize
     ensures { result ≡ bytes_for (count * width) }
@@ -104,33 +81,32 @@ fn packed_length(width: u8, count: u32) -> usize
     ((count as usize) * (width as usize) + 7) / 8
 }
 
-#[tactic(auto, unfolding(crate::specs::Frame::parsed))]
+// The header at the front of a frame, whose bytes are all there.
+#[tactic(auto, unfolding(crate::specs::Frame::parsed, crate::specs::Frame::number_of))]
 pub fn parse_compact(bytes: &[u8]) -> Result<CompactFrame, Refusal>
     ensures result_value { outcome_of bytes.now result ≡ parsed bytes.now }
     ensures within { Within bytes.now result }
 {
-    let len = bytes.len();
-    if len < HEADER_LENGTH {
+    let &[m0, m1, m2, version, width, c0, c1, c2, c3, n0, n1, ..] = bytes else {
         return Err(Refusal::CompactFrame(FrameSite::Short));
-    }
-    if !has_magic(bytes) {
+    };
+    if [m0, m1, m2] != *b"FB1" {
         return Err(Refusal::CompactFrame(FrameSite::Magic));
     }
-    if bytes[3] != VERSION {
+    if version != VERSION {
         return Err(Refusal::CompactFrame(FrameSite::Version));
     }
-    let bits = bytes[4];
-    let block_count = read_count(bytes);
-    let norm_len = read_norm_len(bytes);
+    let block_count = u32::from_le_bytes([c0, c1, c2, c3]);
+    let norm_len = u16::from_le_bytes([n0, n1]);
     let start = HEADER_LENGTH + norm_len as usize;
-    if len < start {
+    if bytes.len() < start {
         return Err(Refusal::CompactFrame(FrameSite::NormCutOff));
     }
-    if len - start != packed_length(bits, block_count) {
+    if bytes.len() - start != packed_length(width, block_count) {
         return Err(Refusal::CompactFrame(FrameSite::IndexLength));
     }
     Ok(CompactFrame {
-        width: bits,
+        width,
         block_count,
         norm_len,
     })

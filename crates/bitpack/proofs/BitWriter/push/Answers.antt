@@ -10,22 +10,21 @@ use Rattle.bitpack.proofs.BitWriter.push.Goals as goal
 
 pub loop-have-preserved : goal.loop-have-preserved
 loop-have-preserved c =
-    let l = c in (
-      length-set l.loop-have.out l.loop-have.at (l.loop-have.acc % 256) ∙ l.loop-have.invariant.0,
-      omega arith,
-      λ f p old r.
-          let now : Writing f p old l.loop-have.out l.loop-have.at l.loop-have.acc l.loop-have.have = l.loop-have.invariant.2 f p old r in
-          writing_put f p old l.loop-have.out l.loop-have.at l.loop-have.acc l.loop-have.have now c.loop-have-test.true
-          (omega (arith, writing-length f p old l.loop-have.out l.loop-have.at l.loop-have.acc l.loop-have.have now)),
-    )
+    let l = c.loop-have in record {
+      same = length-set l.out l.at (l.acc % 256) ∙ l.invariant.same;
+      room = omega arith;
+      writes = λ f p old r.
+          let now : Writing f p old l.out l.at l.acc l.have = l.invariant.writes f p old r in
+          writing_put f p old l.out l.at l.acc l.have now c.loop-have-test.true (omega (arith, writing-length f p old l.out l.at l.acc l.have now));
+    }
 
 pub returns : goal.returns
 returns c =
-    let l = c in
-    let s = l in
+    let a = c.args in
+    let w = a.self.now in
     λ f p old r v. record {
       few = c.loop-have-test.false;
-      writing = l.loop-have.invariant.2 f (p + s.args.width) old
-          (rw (shifted s.args.value s.args.self.have s.ranges.value.fits (omega (arith, s.requires.few)))
-          (writing_add f p old s.args.out.now s.args.self.at s.args.self.acc s.args.self.have s.args.value s.args.width r.writing v));
+      writing = c.loop-have.invariant.writes f (p + a.width) old
+          (rw (shifted a.value w.have c.ranges.value.fits (omega (arith, c.requires.few)))
+          (writing_add f p old a.out.now w.at w.acc w.have a.value a.width r.writing v));
     }
