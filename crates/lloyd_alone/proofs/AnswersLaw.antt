@@ -50,16 +50,15 @@ no_nan n k codewords block few shape long b c i l =
 
 -- ---- nearest, called alone
 -- what a search answers once its checks have passed
-pub answered : (n : ℕ) (codewords block : List Float) (best : Choice) → codebook_shaped n (length block) (length codewords) ≡ true → first_outside search_limit block ≡ None → first_outside search_limit codewords ≡ None
-    → (NoNan (length block) n (row_of (length block) codewords) (vector_of block) → best ≡ chosen (length block) n (row_of (length block) codewords) (vector_of block))
-    → completed (record { found = best.found; tied = mark_of best }) ≡ nearest_alone n (length block) codewords block
+pub answered : (n k : ℕ) (codewords block : List Float) (best : Choice) → codebook_shaped n k (length codewords) ≡ true → length block ≡ k → first_outside search_limit block ≡ None → first_outside search_limit codewords ≡ None
+    → (NoNan k n (row_of k codewords) (vector_of block) → best ≡ chosen k n (row_of k codewords) (vector_of block))
+    → completed (record { found = best.found; tied = mark_of best }) ≡ nearest_alone n k codewords block
 unfolding nearest_alone
-answered n codewords block best shaped p q e =
-    let k = length block in
+answered n k codewords block best shaped long p q e =
     let s = codebook_shape n k (length codewords) shaped in
     let far : ℕ → Float = λ i. distance k (vector_of block) (row_of k codewords i) in
-    let is = e (no_nan n k codewords block s.coordinates_upto s.length_is refl p q) in
-    rw (shaped, eq-eqb k k refl, p, q, is, mark_means far n)
+    let is = e (no_nan n k codewords block s.coordinates_upto s.length_is long p q) in
+    rw (shaped, eq-eqb (length block) k long, p, q, is, mark_means far n)
 
 pub record NearestAccepted (n k : ℕ) (codewords block : List Float) (f : Marked) : Type 0 where
   pub shape : Codebook n k (length codewords)

@@ -12,8 +12,8 @@ use Rattle.ieee.proofs.Order.{le_not_lt, le_lt, lt_le, le_le, le_numbers, le_or_
 use Rattle.lloyd_search.specs.declared.Found.{Found}
 use Rattle.lloyd_search.specs.declared.Choice.{Choice}
 use Rattle.lloyd_search.specs.Nearest.{pick}
-use Rattle.lloyd_search.specs.Choice.{passing}
-use Rattle.lloyd_alone.specs.Watch.{joined, passing_two}
+use Rattle.lloyd_search.specs.Choice.{joined, passing}
+use Rattle.lloyd_alone.specs.Watch.{passing_two}
 
 holds_not : {b : Bool} → b ≡ false → T (not b)
 holds_not e = subst (λ (z : Bool). T (not z)) (sym e) tt

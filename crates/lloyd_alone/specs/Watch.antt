@@ -1,16 +1,16 @@
 -- The search called alone: what it keeps of the codewords that it has passed, two of which it compares with each other
 -- first, and what it reads off its distances: whether they are at most 2 ^ 250. Definitions only.
-use Rattle.std.specs.Prelude.{◌≡◌, ℕ, ◌+◌, ◌*◌, ◌^◌, ◌<◌, true, false, not, cond, List, [], ◌∷◌, pos, T, Float, None}
+use Rattle.std.specs.Prelude.{◌≡◌, ℕ, ◌+◌, ◌*◌, ◌^◌, ◌<◌, ◌≤◌, true, false, not, List, [], ◌∷◌, pos, T, Float, None}
 use Rattle.std.specs.Float.{fin, binary64}
-use Rattle.std.specs.Float.Ieee.{add, lt, le, is_nan}
+use Rattle.std.specs.Float.Ieee.{add, is_nan}
 use Rattle.ieee.specs.Bounds.{Upto}
 use Rattle.slices.specs.Limit.{first_outside}
 use Rattle.lloyd_search.specs.declared.Choice.{Choice}
 use Rattle.lloyd_alone.specs.declared.Watched.{Watched}
 use Rattle.lloyd_alone.specs.declared.Seen.{Seen}
 use Rattle.lloyd_search.specs.Distance.{distance, vector_of}
-use Rattle.lloyd_search.specs.Nearest.{pick}
-use Rattle.lloyd_search.specs.Choice.{chosen, passing}
+use Rattle.lloyd_search.specs.Choice.{chosen, joined, passing}
+use Rattle.lloyd_search.specs.Four.{four_from}
 use Rattle.lloyd_alone.specs.Totals.{every_fourth}
 
 -- 2 ^ 127
@@ -24,13 +24,6 @@ AllNear k n book x = (i : ℕ) → i < n → Upto (distance k x (book i)) (2 ^ 2
 -- no distance of x to n codewords is a NaN
 abbrev pub NoNan : ℕ → ℕ → (ℕ → ℕ → Float) → (ℕ → Float) → Type 0
 NoNan k n book x = (i : ℕ) → i < n → T (not (is_nan (distance k x (book i))))
-
--- the choice of two, the second of which was made among later codewords
-abbrev pub joined : Choice → Choice → Choice
-joined c d = record {
-  found = pick (lt d.found.distance c.found.distance) d.found c.found;
-  last = cond (le d.found.distance c.found.distance) d.last c.last;
-}
 
 -- the choice after two codewords more, which are compared with each other first
 abbrev pub passing_two : Choice → ℕ → Float → Float → Choice
@@ -54,6 +47,10 @@ abbrev pub four_sums : ℕ → ℕ → (ℕ → ℕ → Float) → (ℕ → Floa
 four_sums k m book x =
     let sum : ℕ → Float = λ r. every_fourth (λ i. distance k x (book i)) r m in
     sum 0 ∷ sum 1 ∷ sum 2 ∷ sum 3 ∷ []
+
+-- what a measure gives for each four among n codewords, by the number of its first, are their distances to x
+abbrev pub Measures : (ℕ → List Float → Type 0) → ℕ → ℕ → (ℕ → ℕ → Float) → (ℕ → Float) → Type 0
+Measures gives k n book x = (i : ℕ) (far : List Float) → i + 4 ≤ n → gives i far → far ≡ four_from k x book i
 
 -- what is kept of so many fours of codewords
 pub record Watches (k m : ℕ) (book : ℕ → ℕ → Float) (x : ℕ → Float) (r : Watched) : Type 0 where

@@ -1,18 +1,16 @@
 // Nearest and mean error of lloyd.rs, called alone.
 #![tactic(auto)]
 
-ghost use Rattle.std.specs.Prelude.{◌≡◌, ◌<◌, ◌≤◌, ◌+◌, ◌*◌, ◌^◌, true, length};
-ghost use Rattle.error.specs.Names.{slice_number};
-ghost use Rattle.error.specs.Numbers.{completed, outcome};
-ghost use Rattle.slices.specs.Limit.{first_outside, bounded};
+ghost use Rattle.std.specs.Prelude.{◌≡◌, ℕ, ◌<◌, ◌≤◌, ◌+◌, ◌*◌, ◌/◌, ◌^◌, true, length, Float};
+ghost use Rattle.error.specs.Numbers.{outcome};
 ghost use Rattle.lloyd_search.specs.Distance.{distance, vector_of, row_of};
 ghost use Rattle.lloyd_search.specs.Choice.{mark_of};
 ghost use Rattle.lloyd_search.specs.Four.{four_from};
-ghost use Rattle.lloyd_alone.specs.Watch.{joined, passing_two, watching, Watches, Sees, Small};
+ghost use Rattle.lloyd_alone.specs.Watch.{passing_two, watching, Measures, Watches, Sees, Small};
 ghost use Rattle.lloyd_alone.specs.Answers.{search_limit, nearest_alone, mean_error_alone};
 
 use error::{Refusal, Slice};
-use lloyd_search::{Choice, Found, NONE_PASSED};
+use lloyd_search::{Choice, Codewords, Found, NONE_PASSED};
 
 // The codeword found, and whether another has the same distance: the choice was a toss.
 // Kept: a flag beside a value that is there either way.
@@ -45,26 +43,6 @@ const UNWATCHED: Watched = Watched {
     sums: [0.0; 4],
 };
 
-// The choice of two, the second of which was made among later codewords.
-fn choose(before: Choice, later: Choice) -> Choice
-    ensures { result ≡ joined before later }
-{
-    let first = before.found;
-    let second = later.found;
-    let mut last = before.last;
-    if second.distance <= first.distance {
-        last = later.last;
-    }
-    if second.distance < first.distance {
-        Choice {
-            found: second,
-            last,
-        }
-    } else {
-        Choice { found: first, last }
-    }
-}
-
 // The choice after two more codewords, the first of which has this number. They are compared with each other first, so
 // that less waits for the choice before them; only a NaN would show the difference.
 fn nearer_two(best: Choice, index: usize, first: f64, second: f64) -> Choice
@@ -78,7 +56,7 @@ fn nearer_two(best: Choice, index: usize, first: f64, second: f64) -> Choice
         },
         last: index,
     };
-    choose(best, lloyd_search::nearer(one, index + 1, second))
+    lloyd_search::choose(best, lloyd_search::nearer(one, index + 1, second))
 }
 
 // Four codewords more, the first of which has this number.
@@ -100,45 +78,47 @@ fn watch(before: Watched, index: usize, four: [f64; 4]) -> Watched
     }
 }
 
-// The first fours of codewords, so many of them. The next four are measured before those at hand are compared.
-fn watch_rows(codewords: &[f64], fours: usize, block: &[f64]) -> Watched
-    requires within { fours * 4 * length block.now ≤ length codewords.now }
-    requires countable { fours * 4 < 2 ^ 64 }
-    ensures { Watches (length block.now) fours
-        (row_of (length block.now) codewords.now) (vector_of block.now) result }
+// The whole fours of so many codewords, measured by `four`, which takes the number of the first of a four. The next four
+// are measured before those at hand are compared.
+fn watch_all<F: Fn(usize) -> [f64; 4]>(count: usize, four: F) -> Watched
+    requires { (i : ℕ) → i + 4 ≤ count → F.pre four i }
+    ensures { (k : ℕ) → (book : ℕ → ℕ → Float) → (x : ℕ → Float)
+        → Measures (F.post four) k count book x → Watches k (count / 4) book x result }
 {
     let mut before = UNWATCHED;
+    let fours = count / 4;
     if fours == 0 {
         return before;
     }
     let last = fours - 1;
-    let mut four = lloyd_search::distances_from(codewords, 0, block);
+    let mut at_hand = four(0);
     for turn in 0..last {
         let index = turn * 4;
-        let next = lloyd_search::distances_from(codewords, index + 4, block);
-        before = watch(before, index, four);
-        four = next;
+        let next = four(index + 4);
+        before = watch(before, index, at_hand);
+        at_hand = next;
     }
-    watch(before, last * 4, four)
+    watch(before, last * 4, at_hand)
 }
 
 // The squared distance of a block of four values to the codeword of this number: the sum without its loop.
-fn quad_distance(codewords: &[f64], index: usize, block: &[f64]) -> f64
-    requires { (length block.now ≡ 4) × ((index + 1) * 4 ≤ length codewords.now) }
-    ensures { result ≡ distance 4 (vector_of block.now) (row_of 4 codewords.now index) }
+// Kept: beside lloyd_search's, since the loop over four coordinates takes a tenth of a search among 32 codewords.
+fn quad_distance(codewords: Codewords<f64>, index: usize, block: &[f64]) -> f64
+    requires { (codewords.dim ≡ 4) × (length block.now ≡ 4) × (index < codewords.count) }
+    ensures { result ≡ distance 4 (vector_of block.now) (row_of 4 codewords.entry.values.now index) }
 {
     let at = index * 4;
-    let e = codewords[at] - block[0];
-    let f = codewords[at + 1] - block[1];
-    let g = codewords[at + 2] - block[2];
-    let h = codewords[at + 3] - block[3];
+    let e = codewords.values[at] - block[0];
+    let f = codewords.values[at + 1] - block[1];
+    let g = codewords.values[at + 2] - block[2];
+    let h = codewords.values[at + 3] - block[3];
     (((0.0 + e * e) + f * f) + g * g) + h * h
 }
 
 // The squared distances of a block of four values to four codewords, the first of which has this number.
-fn quad_distances(codewords: &[f64], index: usize, block: &[f64]) -> [f64; 4]
-    requires { (length block.now ≡ 4) × ((index + 4) * 4 ≤ length codewords.now) }
-    ensures { result ≡ four_from 4 (vector_of block.now) (row_of 4 codewords.now) index }
+fn quad_distances(codewords: Codewords<f64>, index: usize, block: &[f64]) -> [f64; 4]
+    requires { (codewords.dim ≡ 4) × (length block.now ≡ 4) × (index + 4 ≤ codewords.count) }
+    ensures { result ≡ four_from 4 (vector_of block.now) (row_of 4 codewords.entry.values.now) index }
 {
     [
         quad_distance(codewords, index, block),
@@ -148,32 +128,30 @@ fn quad_distances(codewords: &[f64], index: usize, block: &[f64]) -> [f64; 4]
     ]
 }
 
-// `watch_rows` for a block of four values, which stay at hand from the first codeword to the last.
-fn watch_quads(codewords: &[f64], fours: usize, block: &[f64]) -> Watched
-    requires long { length block.now ≡ 4 }
-    requires within { fours * 4 * 4 ≤ length codewords.now }
-    requires countable { fours * 4 < 2 ^ 64 }
-    ensures { Watches 4 fours (row_of 4 codewords.now) (vector_of block.now) result }
-{
-    let mut before = UNWATCHED;
-    for turn in 0..fours {
-        let index = turn * 4;
-        before = watch(before, index, quad_distances(codewords, index, block));
-    }
-    before
-}
-
-// The first fours of codewords, so many of them.
-fn watch_fours(codewords: &[f64], fours: usize, block: &[f64]) -> Watched
-    requires within { fours * 4 * length block.now ≤ length codewords.now }
-    requires countable { fours * 4 < 2 ^ 64 }
-    ensures { Watches (length block.now) fours
-        (row_of (length block.now) codewords.now) (vector_of block.now) result }
+// The whole fours of codewords. Four values stay at hand from the first codeword to the last.
+fn watch_fours(codewords: Codewords<f64>, block: &[f64]) -> Watched
+    requires { length block.now ≡ codewords.dim }
+    ensures { let k = codewords.entry.dim in
+        Watches k (codewords.entry.count / 4) (row_of k codewords.entry.values.now) (vector_of block.now) result }
 {
     if block.len() == 4 {
-        watch_quads(codewords, fours, block)
+        watch_all(
+            codewords.count,
+            move |index|
+                requires { (codewords.dim ≡ 4) × (length block.now ≡ 4) × (index + 4 ≤ codewords.count) }
+                ensures { result ≡ four_from 4 (vector_of block.entry.now) (row_of 4 codewords.entry.values.now) index }
+            { quad_distances(codewords, index, block) },
+        )
     } else {
-        watch_rows(codewords, fours, block)
+        let rows = codewords.values;
+        watch_all(
+            codewords.count,
+            move |index|
+                requires { (index + 4) * length block.now ≤ length rows.now }
+                ensures { let k = length block.entry.now in
+                    result ≡ four_from k (vector_of block.entry.now) (row_of k rows.entry.now) index }
+            { lloyd_search::distances_from(rows, index, block) },
+        )
     }
 }
 
@@ -185,20 +163,20 @@ struct Seen {
     near: bool,
 }
 
-// `search` that also tells whether every distance is known to be near.
-fn search_near(codewords: &[f64], n: usize, block: &[f64]) -> Seen
-    requires { length codewords.now ≡ n * length block.now }
-    ensures { Sees (length block.now) n
-        (row_of (length block.now) codewords.now) (vector_of block.now) result }
+// `Codewords::search` that also tells whether every distance is known to be near.
+fn search_near(codewords: Codewords<f64>, block: &[f64]) -> Seen
+    requires { length block.now ≡ codewords.dim }
+    ensures { let k = codewords.entry.dim in
+        Sees k codewords.entry.count (row_of k codewords.entry.values.now) (vector_of block.now) result }
 {
     let k = block.len();
-    let watched = watch_fours(codewords, n / 4, block);
+    let watched = watch_fours(codewords, block);
     let mut best = watched.best;
     let sums = watched.sums;
     let mut near = (sums[0] + sums[1]) + (sums[2] + sums[3]) < NEAR_LIMIT;
-    for i in n / 4 * 4..n {
+    for i in codewords.count / 4 * 4..codewords.count {
         let at = i * k;
-        let distance = lloyd_search::squared_distance(block, &codewords[at..at + k]);
+        let distance = lloyd_search::squared_distance(block, &codewords.values[at..at + k]);
         near = near & (distance < NEAR_LIMIT);
         best = lloyd_search::nearer(best, i, distance);
     }
@@ -224,19 +202,6 @@ fn with_mark(choice: Choice) -> Marked
     }
 }
 
-// Whether all values of a slice are within SEARCH_LIMIT.
-fn check_bounded(values: &[f64], slice: Slice) -> Result<(), Refusal>
-    ensures { outcome result ≡ bounded (slice_number slice) (first_outside search_limit values.now) (completed tt) }
-{
-    match slices::first_outside(values, SEARCH_LIMIT) {
-        None => Ok(()),
-        Some(place) => Err(Refusal::OutOfBounds {
-            slice,
-            place: place as u64,
-        }),
-    }
-}
-
 // The codeword nearest to a block, with its distance, the first of equals; and whether another has the same distance.
 // Where the distances are small, they spare the scan of all codewords.
 #[tactic(auto, unfolding(crate::specs::Answers::nearest_alone))]
@@ -255,10 +220,15 @@ pub fn nearest_index(
     if block.len() as u64 != block_dim {
         return Err(Refusal::SliceLength(Slice::Input));
     }
-    let seen = search_near(codewords, codebook_size as usize, block);
+    let book = Codewords {
+        values: codewords,
+        count: codebook_size as usize,
+        dim: block_dim as usize,
+    };
+    let seen = search_near(book, block);
     if !small_distances(seen, block) {
-        check_bounded(block, Slice::Input)?;
-        check_bounded(codewords, Slice::Codewords)?;
+        slices::check_within(block, SEARCH_LIMIT, Slice::Input)?;
+        slices::check_within(codewords, SEARCH_LIMIT, Slice::Codewords)?;
     }
     Ok(with_mark(seen.best))
 }
@@ -283,12 +253,12 @@ pub fn mse_for_codebook(
     if samples.len() == 0 {
         return Err(Refusal::ZeroDimension);
     }
-    check_bounded(samples, Slice::Samples)?;
-    check_bounded(codewords, Slice::Codewords)?;
-    Ok(lloyd_search::mean_error(
-        codewords,
-        codebook_size as usize,
-        block_dim as usize,
-        samples,
-    ))
+    slices::check_within(samples, SEARCH_LIMIT, Slice::Samples)?;
+    slices::check_within(codewords, SEARCH_LIMIT, Slice::Codewords)?;
+    let book = Codewords {
+        values: codewords,
+        count: codebook_size as usize,
+        dim: block_dim as usize,
+    };
+    Ok(lloyd_search::mean_error(book, samples))
 }

@@ -3,23 +3,21 @@
 -- Assumes nothing.
 use mathlib.Core.Path.{◌≡◌, refl, sym, ap, ◌∙◌, subst}
 use Prim.Native.Nat.{ℕ, zero, suc, ◌+◌, ◌*◌, ◌^◌, ◌≤◌, ◌<◌}
-use native.Mathlib.Nat.{le_trans, le_of_eq, le_refl, lt_of_lt_of_le, lt_of_le_of_lt, le_step, lt-suc_self, one-mul, mul-le-mul_right}
+use native.Mathlib.Nat.{le_trans, le_of_eq, le_refl, lt_of_lt_of_le, lt_of_le_of_lt, one-mul, mul-le-mul_right}
 use native.Mathlib.Omega.{arith}
-use mathlib.Core.Bool.{Bool, true, false}
+use mathlib.Core.Bool.{true, false}
 use lib.Dec.{lit<, lit≤}
 use lib.IntN.{pos}
 use lib.Pow.{pow-add}
-use lib.Ieee.{Float, binary64, fits, lt, sub, of_int}
+use lib.Ieee.{Float, binary64, fits, sub, of_int}
 use lib.Ieee.Bits.{is_true}
-use lib.Ieee.Fits.{add-fits, div-fits, inf-fits}
-use Rattle.ieee.specs.Bounds.{Upto, NotNegative, Holds}
+use lib.Ieee.Fits.{add-fits}
+use Rattle.ieee.specs.Bounds.{Upto, Holds}
 use Rattle.ieee.specs.Sum.{sum_to, squared_difference}
 use Rattle.ieee.proofs.Bound.{sub_upto, mul_upto, mean_upto, sum_to_upto, upto_finite, upto_mono}
 use Rattle.ieee.proofs.Whole.{whole_value, value_at_most}
-use Rattle.ieee.proofs.Sign.{square_not_negative, sum_to_not_negative}
-use Rattle.lloyd_search.specs.declared.Found.{Found}
 use Rattle.lloyd_search.specs.Distance.{distance}
-use Rattle.lloyd_search.specs.Nearest.{pick, first_least, nearest, mean_error, Least}
+use Rattle.lloyd_search.specs.Nearest.{nearest, mean_error, Least}
 use Rattle.lloyd_search.specs.Finite.{FiniteDistance, FiniteNearest, FiniteMean}
 use Rattle.lloyd_search.proofs.NearestLaw.{first_least_lem}
 
@@ -31,23 +29,6 @@ sum_to_fits t (suc n) = is_true _ (add-fits binary64 (sum_to t n) (t n))
 
 pub distance_fits : (k : ℕ) (x y : ℕ → Float) → fits binary64 (distance k x y) ≡ true
 distance_fits k x y = sum_to_fits (λ j. squared_difference (x j) (y j)) k
-
-picked : (P : Found → Type 0) (b : Bool) (r q : Found) → P r → P q → P (pick b r q)
-picked P true r q h k = h
-picked P false r q h k = k
-
-first_least_fits : (d : ℕ → Float) (n : ℕ) → ((i : ℕ) → i < n → fits binary64 (d i) ≡ true) → fits binary64 (first_least d n).distance ≡ true
-unfolding first_least
-first_least_fits d zero h = is_true _ (inf-fits binary64 false)
-first_least_fits d (suc n) h =
-    picked (λ (r : Found). fits binary64 r.distance ≡ true) (lt (d n) (first_least d n).distance) (record { index = n; distance = d n }) (first_least d n)
-    (h n (lt-suc_self n)) (first_least_fits d n (λ i l. h i (le_step l)))
-
-pub nearest_fits : (k n : ℕ) (book : ℕ → ℕ → Float) (x : ℕ → Float) → fits binary64 (nearest k n book x).distance ≡ true
-nearest_fits k n book x = first_least_fits (λ i. distance k x (book i)) n (λ i l. distance_fits k x (book i))
-
-pub mean_fits : (k n : ℕ) (book samples : ℕ → ℕ → Float) (S : ℕ) → fits binary64 (mean_error k n book samples S) ≡ true
-mean_fits k n book samples S = is_true _ (div-fits binary64 (sum_to (λ s. (nearest k n book (samples s)).distance) S) (of_int binary64 (pos S)))
 
 -- ---- the bounds
 -- a power of two that binary64 holds
@@ -96,9 +77,6 @@ module _ (b : ℕ) (small : b ≤ 480) where
         partial_sums = λ m l. upto_finite (distance m x y) (m * 2 ^ (2 * b + 2)) (distance_upto m l);
       }
 
-      pub distance_not_negative : NotNegative (distance k x y)
-      distance_not_negative = sum_to_not_negative (λ j. squared_difference (x j) (y j)) k (λ j l. square_not_negative binary64 (sub binary64 (x j) (y j)) (finite_distance.differences j l))
-
     module _ (n : ℕ) (some : 1 ≤ n) (book : ℕ → ℕ → Float) (g : (i : ℕ) → i < n → Bounded b k (book i)) where
       pub nearest_least : (x : ℕ → Float) → Bounded b k x → Least (λ i. distance k x (book i)) n (nearest k n book x)
       nearest_least x h = first_least_lem (λ i. distance k x (book i)) n some (λ i l. (finite_distance x (book i) h (g i l)).partial_sums k (le_refl k))
@@ -109,9 +87,6 @@ module _ (b : ℕ) (small : b ≤ 480) where
 
       pub nearest_upto : (x : ℕ → Float) → Bounded b k x → Upto (nearest k n book x).distance (k * 2 ^ (2 * b + 2))
       nearest_upto x h = found (λ (d : Float). Upto d (k * 2 ^ (2 * b + 2))) x h (λ y f. distance_upto x y h f k (le_refl k))
-
-      pub nearest_not_negative : (x : ℕ → Float) → Bounded b k x → NotNegative (nearest k n book x).distance
-      nearest_not_negative x h = found NotNegative x h (λ y f. distance_not_negative x y h f)
 
       pub finite_nearest : (x : ℕ → Float) → Bounded b k x → FiniteNearest k n book x
       finite_nearest x h = record { distances = λ i l. finite_distance x (book i) h (g i l); found = upto_finite (nearest k n book x).distance (k * 2 ^ (2 * b + 2)) (nearest_upto x h) }

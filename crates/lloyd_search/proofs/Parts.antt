@@ -1,14 +1,14 @@
 -- A row of a list, handed over as a part of a slice; distance and nearest see coordinates only. Assumes nothing.
-use mathlib.Core.Path.{◌≡◌, refl, sym, ap, ◌∙◌, subst}
+use mathlib.Core.Path.{◌≡◌, refl, ap, ◌∙◌}
 use Prim.Native.Nat.{ℕ, zero, suc, ◌+◌, ◌-◌, ◌*◌, ◌≤◌, ◌<◌}
-use native.Mathlib.Nat.{add-mul, suc-mul, mul-le-mul_right, le_step, lt-suc_self}
+use native.Mathlib.Nat.{suc-mul, mul-le-mul_right, le_step, lt-suc_self}
 use native.Mathlib.Omega.{arith}
 use mathlib.Core.List.{List}
 use lib.ListN.{length, get_or, take, drop, length-take, length-drop}
 use lib.Seq.{get_or-take, get_or-drop}
 use lib.Ieee.{Float, nan}
 use Rattle.ieee.proofs.Bound.{sum_to_ext}
-use Rattle.lloyd_search.specs.Distance.{distance, vector_of, row_of, vector_as, row_as, Widens}
+use Rattle.lloyd_search.specs.Distance.{distance, vector_of, row_of, vector_as, row_as}
 use Rattle.ieee.specs.Sum.{squared_difference}
 use Rattle.lloyd_search.specs.Nearest.{first_least, nearest}
 use Rattle.lloyd_search.specs.Choice.{last_least, chosen}
@@ -27,10 +27,6 @@ next_row i k at end a e = let s = suc-mul i k in let o : (i + 1) * k ≡ suc i *
     one : i + 1 ≡ suc i
     one = omega arith
 
--- the m-th row after row i
-pub later_row : (i m k at p : ℕ) → at ≡ i * k → p ≡ at + m * k → p ≡ (i + m) * k
-later_row i m k at p a e = omega (arith, add-mul i m k)
-
 cut : (at k : ℕ) → at + k - at ≡ k
 cut at k = omega arith
 
@@ -41,13 +37,6 @@ module _ {A : Type 0} (xs : List A) (i k at : ℕ) (is : at ≡ i * k) where
   -- the coordinates of the part are those of the row
   pub part_row_as : (value : A → Float) (missing : A) (j : ℕ) → j < k → vector_as value missing (take (at + k - at) (drop at xs)) j ≡ row_as value missing k xs i j
   part_row_as value missing j h = rw (cut at k) (ap value (get_or-take k (drop at xs) j missing h ∙ get_or-drop at xs j missing ∙ ap (λ (z : ℕ). get_or xs (z + j) missing) is))
-
-  -- and those that widen are those of the list
-  pub part_widens : (widens : A → Type 0) (missing : A) → at + k ≤ length xs → Widens widens missing xs → Widens widens missing (take (at + k - at) (drop at xs))
-  part_widens widens missing h f j l =
-      let e = part_length h in
-      let l' : j < at + k - at = omega (arith, l, e) in
-      subst widens (sym (get_or-take (at + k - at) (drop at xs) j missing l' ∙ get_or-drop at xs j missing)) (f (at + j) (omega arith))
 
 -- the same of floats
 pub part_row : (xs : List Float) (i k at : ℕ) → at ≡ i * k → (j : ℕ) → j < k → vector_of (take (at + k - at) (drop at xs)) j ≡ row_of k xs i j
@@ -64,11 +53,6 @@ part_distance x xs i k at is = distance_ext k x _ x (row_of k xs i) (λ j h. ref
 -- the same of a list of values that stand for floats
 pub part_distance_as : {A : Type 0} (value : A → Float) (missing : A) (x : ℕ → Float) (xs : List A) (i k at : ℕ) → at ≡ i * k → distance k x (vector_as value missing (take (at + k - at) (drop at xs))) ≡ distance k x (row_as value missing k xs i)
 part_distance_as value missing x xs i k at is = distance_ext k x _ x (row_as value missing k xs i) (λ j h. refl) (part_row_as xs i k at is value missing)
-
--- the distance of two parts is that of their rows
-pub parts_distance : (xs ys : List Float) (m i k p at : ℕ) → p ≡ m * k → at ≡ i * k
-    → distance k (vector_of (take (p + k - p) (drop p xs))) (vector_of (take (at + k - at) (drop at ys))) ≡ distance k (row_of k xs m) (row_of k ys i)
-parts_distance xs ys m i k p at e is = distance_ext k _ _ (row_of k xs m) (row_of k ys i) (part_row xs m k p e) (part_row ys i k at is)
 
 -- the search sees distances only
 pub first_least_ext : (d e : ℕ → Float) (n : ℕ) → ((i : ℕ) → i < n → d i ≡ e i) → first_least d n ≡ first_least e n
@@ -90,8 +74,5 @@ chosen_ext k n book x y h =
     rw (first_least_ext (λ i. distance k x (book i)) (λ i. distance k y (book i)) n far, last_least_ext (λ i. distance k x (book i)) (λ i. distance k y (book i)) n far)
 
 -- the choice for a part is that for the row
-pub part_chosen : (codewords xs : List Float) (n i k at : ℕ) → at ≡ i * k → at + k ≤ length xs
-    → chosen (length (take (at + k - at) (drop at xs))) n (row_of (length (take (at + k - at) (drop at xs))) codewords) (vector_of (take (at + k - at) (drop at xs))) ≡ chosen k n (row_of k codewords) (row_of k xs i)
-part_chosen codewords xs n i k at is h =
-    let x : ℕ → Float = vector_of (take (at + k - at) (drop at xs)) in
-    ap (λ (m : ℕ). chosen m n (row_of m codewords) x) (part_length xs i k at is h) ∙ chosen_ext k n (row_of k codewords) x (row_of k xs i) (part_row xs i k at is)
+pub part_chosen : (book : ℕ → ℕ → Float) (xs : List Float) (n i k at : ℕ) → at ≡ i * k → chosen k n book (vector_of (take (at + k - at) (drop at xs))) ≡ chosen k n book (row_of k xs i)
+part_chosen book xs n i k at is = chosen_ext k n book _ (row_of k xs i) (part_row xs i k at is)

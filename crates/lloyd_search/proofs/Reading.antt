@@ -1,5 +1,5 @@
 -- What is read from a list of values that widen, and one more coordinate of a sum. Assumes nothing.
-use Rattle.std.proofs.Common.{◌≡◌, refl, sym, ℕ, ◌+◌, ◌*◌, ◌<◌, List, [], ◌∷◌, length, get_or, Float, subst, ap, ◌∙◌, add-one}
+use Rattle.std.proofs.Common.{◌≡◌, refl, sym, ℕ, ◌+◌, ◌*◌, ◌<◌, Bool, T, List, [], ◌∷◌, length, get_or, Float, subst, ap, ◌∙◌, add-one}
 use Rattle.std.specs.Float.{nan, binary64}
 use Rattle.std.specs.Float.Ieee.{add, sub, mul}
 use Rattle.std.proofs.lemmas.List.{get_or_read}
@@ -10,8 +10,8 @@ use Rattle.lloyd_search.specs.Four.{four_from}
 
 module _ {A : Type 0} (xs : List A) (p : ℕ) (x : A) (inside : p < length xs) (is : x ≡ get_or xs p x) where
   -- a value that is read widens
-  pub read_widens : (widens : A → Type 0) (missing : A) → Widens widens missing xs → widens x
-  read_widens widens missing h = subst widens (sym (get_or_read xs p x inside is missing)) (h p inside)
+  pub read_widens : (widens : A → Bool) (missing : A) → Widens widens missing xs → T (widens x)
+  read_widens widens missing h = subst (λ (y : A). T (widens y)) (sym (get_or_read xs p x inside is missing)) (h p inside)
 
   -- and it is a coordinate of the list
   pub read_vector : (value : A → Float) (missing : A) → value x ≡ vector_as value missing xs p

@@ -18,12 +18,16 @@ choice d n = record { found = first_least d n; last = last_least d n }
 abbrev pub chosen : ℕ → ℕ → (ℕ → ℕ → Float) → (ℕ → Float) → Choice
 chosen k n book x = choice (λ i. distance k x (book i)) n
 
+-- the choice of two, the second of which was made among later codewords
+abbrev pub joined : Choice → Choice → Choice
+joined c d = record {
+  found = pick (lt d.found.distance c.found.distance) d.found c.found;
+  last = cond (le d.found.distance c.found.distance) d.last c.last;
+}
+
 -- the choice after one codeword more
 abbrev pub passing : Choice → ℕ → Float → Choice
-passing c i x = record {
-  found = pick (lt x c.found.distance) (record { index = i; distance = x }) c.found;
-  last = cond (le x c.found.distance) i c.last;
-}
+passing c i x = joined c (record { found = record { index = i; distance = x }; last = i })
 
 -- and after m more, the first of which has this number, at these distances
 abbrev pub passing_all : Choice → ℕ → (ℕ → Float) → ℕ → Choice

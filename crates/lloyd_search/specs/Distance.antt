@@ -1,6 +1,6 @@
 -- The squared distance: the squares of the differences, added in the order
 -- of the coordinates from +0, each operation rounded. Definitions only.
-use Rattle.std.specs.Prelude.{ℕ, ◌+◌, ◌*◌, ◌<◌, List, length, get_or, Float}
+use Rattle.std.specs.Prelude.{ℕ, ◌+◌, ◌*◌, ◌<◌, Bool, T, List, length, get_or, Float}
 use Rattle.std.specs.Float.{nan}
 use Rattle.ieee.specs.Sum.{sum_to, squared_difference}
 
@@ -24,5 +24,5 @@ abbrev pub row_as : {A : Type 0} → (A → Float) → A → ℕ → List A → 
 row_as value missing k xs i j = value (get_or xs (i * k + j) missing)
 
 -- each value of the list widens
-abbrev pub Widens : {A : Type 0} → (A → Type 0) → A → List A → Type 0
-Widens widens missing xs = (i : ℕ) → i < length xs → widens (get_or xs i missing)
+abbrev pub Widens : {A : Type 0} → (A → Bool) → A → List A → Type 0
+Widens widens missing xs = (i : ℕ) → i < length xs → T (widens (get_or xs i missing))

@@ -1,15 +1,18 @@
 // The search of lloyd.rs: the squared distance, the nearest codeword and the mean error of a codebook.
 #![tactic(auto)]
 
-ghost use Rattle.std.specs.Prelude.{◌≡◌, ◌<◌, ◌≤◌, ◌+◌, ◌*◌, ◌/◌, ◌^◌, length, T, Float};
+mod codewords;
+
+ghost use Rattle.std.specs.Prelude.{◌≡◌, ◌<◌, ◌≤◌, ◌+◌, ◌*◌, ◌/◌, ◌^◌, length, Bool, true, T, Float};
 ghost use Rattle.std.specs.Float.{nan};
 ghost use Rattle.std.specs.Float.Ieee.Scale.{finite};
 ghost use Rattle.lloyd_search.specs.Distance.{distance, vector_of, row_of, vector_as, row_as, Widens};
 ghost use Rattle.lloyd_search.specs.Nearest.{mean_error};
-ghost use Rattle.lloyd_search.specs.Choice.{passing, passing_all, mark_of, chosen};
+ghost use Rattle.lloyd_search.specs.Choice.{joined, passing, passing_all, mark_of, chosen};
 ghost use Rattle.lloyd_search.specs.Four.{four_from};
 ghost use Rattle.lloyd_search.specs.Shape.{codebook_shaped, samples_shaped};
 
+pub use codewords::Codewords;
 use profile::FibQuantProfile;
 
 // A codeword's number and its distance.
@@ -44,10 +47,10 @@ pub trait Coordinate: Copy {
 
     ghost missing: { Self };
 
-    ghost widens: { Self → Type 0 };
+    ghost widens: { Self → Bool };
 
     fn widen(self) -> f64
-        requires { widens self }
+        requires { T (widens self) }
         ensures { result ≡ value self };
 }
 
@@ -56,7 +59,7 @@ impl Coordinate for f64 {
 
     ghost missing = { nan };
 
-    ghost widens = { λ x. Unit {0} };
+    ghost widens = { λ x. true };
 
     fn widen(self) -> f64 {
         self
@@ -68,7 +71,7 @@ impl Coordinate for f32 {
 
     ghost missing = { nan };
 
-    ghost widens = { λ x. T (finite x) };
+    ghost widens = { finite };
 
     #[tactic(auto, using(crate::proofs::WidenLaw::widens))]
     fn widen(self) -> f64 {
@@ -124,24 +127,37 @@ pub fn distances_from<S: Coordinate, T: Coordinate>(rows: &[T], index: usize, on
     sums
 }
 
-// Public only for the crates above: the choice after one more codeword. An equal one leaves the codeword found, and
-// becomes the last.
+// Public only for the crates above: the choice of two, the second of which was made among later codewords. An equal one
+// leaves the codeword found, and gives the last. Member by member, so that each is picked without a branch.
+pub fn choose(before: Choice, later: Choice) -> Choice
+    ensures { result ≡ joined before later }
+{
+    let first = before.found;
+    let second = later.found;
+    let closer = second.distance < first.distance;
+    Choice {
+        found: Found {
+            index: if closer { second.index } else { first.index },
+            distance: if closer {
+                second.distance
+            } else {
+                first.distance
+            },
+        },
+        last: if second.distance <= first.distance {
+            later.last
+        } else {
+            before.last
+        },
+    }
+}
+
+// Public only for the crates above: the choice after one more codeword.
 pub fn nearer(best: Choice, index: usize, distance: f64) -> Choice
     ensures { result ≡ passing best index distance }
 {
-    let found = best.found;
-    let mut last = best.last;
-    if distance <= found.distance {
-        last = index;
-    }
-    if distance < found.distance {
-        Choice {
-            found: Found { index, distance },
-            last,
-        }
-    } else {
-        Choice { found, last }
-    }
+    let found = Found { index, distance };
+    choose(best, Choice { found, last: index })
 }
 
 // Public only for the crates above: the mark of a choice, that another codeword is as near.
@@ -163,58 +179,61 @@ pub fn nearer_four(best: Choice, index: usize, four: [f64; 4]) -> Choice
     best
 }
 
-// The choice among the first fours of codewords, so many of them. The next four distances are under way while those
-// before them are compared, which a processor can do side by side.
-fn search_fours<T: Coordinate>(codewords: &[T], fours: usize, block: &[f64]) -> Choice
-    requires within { fours * 4 * length block.now ≤ length codewords.now }
-    requires countable { fours * 4 < 2 ^ 64 }
-    requires widens { Widens T.widens T.missing codewords.now }
-    ensures { result ≡ chosen (length block.now) (fours * 4)
-        (row_as T.value T.missing (length block.now) codewords.now) (vector_of block.now) }
-{
-    let mut best = NONE_PASSED;
-    if fours == 0 {
-        return best;
+impl<T: Coordinate> Codewords<'_, T> {
+    // Public only for the crates above: the choice among the codewords, four at a time and then one at a time.
+    pub fn search(self, block: &[f64]) -> Choice
+        requires { length block.now ≡ self.dim }
+        ensures { result ≡ chosen self.entry.dim self.entry.count
+            (row_as T.value T.missing self.entry.dim self.entry.values.now) (vector_of block.now) }
+    {
+        let k = block.len();
+        let mut best = self.search_fours(block);
+        for i in self.count / 4 * 4..self.count {
+            let at = i * k;
+            best = nearer(best, i, squared_distance(block, &self.values[at..at + k]));
+        }
+        best
     }
-    let last = fours - 1;
-    let mut four = distances_from(codewords, 0, block);
-    for turn in 0..last {
-        let index = turn * 4;
-        let next = distances_from(codewords, index + 4, block);
-        best = nearer_four(best, index, four);
-        four = next;
-    }
-    nearer_four(best, last * 4, four)
-}
 
-// Public only for the crates above: the choice among n codewords that
-// stand one after another, four at a time and then one at a time.
-pub fn search<T: Coordinate>(codewords: &[T], n: usize, block: &[f64]) -> Choice
-    requires shape { length codewords.now ≡ n * length block.now }
-    requires widens { Widens T.widens T.missing codewords.now }
-    ensures { result ≡ chosen (length block.now) n
-        (row_as T.value T.missing (length block.now) codewords.now) (vector_of block.now) }
-{
-    let k = block.len();
-    let mut best = search_fours(codewords, n / 4, block);
-    for i in n / 4 * 4..n {
-        let at = i * k;
-        best = nearer(best, i, squared_distance(block, &codewords[at..at + k]));
+    // The choice among the whole fours of codewords. The next four distances are under way while those before them are
+    // compared, which a processor can do side by side.
+    // Kept: a walk of its own beside lloyd_alone's, which keeps sums too: one for both would take what it does with four
+    // distances as a closure, and an invariant of it in the contract.
+    fn search_fours(self, block: &[f64]) -> Choice
+        requires { length block.now ≡ self.dim }
+        ensures { result ≡ chosen self.entry.dim (self.entry.count / 4 * 4)
+            (row_as T.value T.missing self.entry.dim self.entry.values.now) (vector_of block.now) }
+    {
+        let mut best = NONE_PASSED;
+        let fours = self.count / 4;
+        if fours == 0 {
+            return best;
+        }
+        let last = fours - 1;
+        let mut four = distances_from(self.values, 0, block);
+        for turn in 0..last {
+            let index = turn * 4;
+            let next = distances_from(self.values, index + 4, block);
+            best = nearer_four(best, index, four);
+            four = next;
+        }
+        nearer_four(best, last * 4, four)
     }
-    best
 }
 
 // Public only for the crates above: the mean error of a codebook over at least one whole sample.
 #[tactic(auto, unfolding(ieee::specs::Sum::sum_to))]
-pub fn mean_error(codewords: &[f64], n: usize, k: usize, samples: &[f64]) -> f64
-    requires { (0 < k) × (length codewords.now ≡ n * k) × (0 < length samples.now / k)
-        × (length samples.now ≡ length samples.now / k * k) }
-    ensures { result ≡ mean_error k n (row_of k codewords.now) (row_of k samples.now)
+pub fn mean_error(codewords: Codewords<f64>, samples: &[f64]) -> f64
+    requires { (0 < codewords.dim) × (0 < length samples.now / codewords.dim)
+        × (length samples.now ≡ length samples.now / codewords.dim * codewords.dim) }
+    ensures { let k = codewords.entry.dim in
+        result ≡ mean_error k codewords.entry.count (row_of k codewords.entry.values.now) (row_of k samples.now)
         (length samples.now / k) }
 {
+    let k = codewords.dim;
     let mut sum = 0.0;
     for sample in samples.chunks_exact(k) {
-        sum = sum + search(codewords, n, sample).found.distance;
+        sum = sum + codewords.search(sample).found.distance;
     }
     sum / ieee::from_u64((samples.len() / k) as u64)
 }

@@ -17,9 +17,9 @@ four x a = rw (square_turned binary64 (a 0) (x 0), square_turned binary64 (a 1) 
 pub returns : goal.returns
 unfolding of_bits
 returns c =
-    let a = c.args in
-    let x = vector_of a.block.now in
-    let row = row_of 4 a.codewords.now a.index in
-    ap (λ (i : ℕ). add binary64 (add binary64 (add binary64 (add binary64 plus_zero (squared_difference (vector_of a.codewords.now i) (x 0))) (squared_difference (row 1) (x 1))) (squared_difference (row 2) (x 2))) (squared_difference (row 3) (x 3)))
-    (sym (add-zero (a.index * 4)))
+    let values = c.args.codewords.values.now in
+    let at = c.args.index * 4 in
+    let x = vector_of c.args.block.now in
+    let row = row_of 4 values c.args.index in
+    ap (λ (i : ℕ). add binary64 (add binary64 (add binary64 (add binary64 plus_zero (squared_difference (vector_of values i) (x 0))) (squared_difference (row 1) (x 1))) (squared_difference (row 2) (x 2))) (squared_difference (row 3) (x 3))) (sym (add-zero at))
     ∙ four x row

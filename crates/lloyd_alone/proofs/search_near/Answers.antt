@@ -1,6 +1,6 @@
 -- `lloyd_alone::search_near` meets its contract: from what the fours give, the best so far is the choice among the
 -- codewords passed, unless a distance is a NaN, and while `near` holds they are near. Assumes nothing.
-use Rattle.std.proofs.Common.{◌≡◌, ◌+◌, ◌*◌, ◌/◌, length, List, Float, T, refl, arith, subst}
+use Rattle.std.proofs.Common.{◌≡◌, ◌+◌, ◌*◌, ◌/◌, List, Float, T, refl, arith, subst}
 use lib.Ieee.{binary64, add, lt, of_bits}
 use lib.Ieee.Bits.{is_true}
 use lib.Ieee.Fits.{and_l, and_r}
@@ -19,21 +19,20 @@ small s = T (lt (add binary64 (add binary64 (vector_of s 0) (vector_of s 1)) (ad
 pub loop-i-init : goal.loop-i-init
 unfolding of_bits
 loop-i-init c =
-    let a = c.args in
+    let book = c.args.codewords in
     let w = c.watch_fours-watched in
-    let k = length a.block.now in
-    record { best_is = w.ensures.best_is; where_near = λ h. fours_near k (row_of k a.codewords.now) (vector_of a.block.now) (a.n / 4) (subst small w.ensures.sums_are (holds_true h)) }
+    record { best_is = w.ensures.best_is; where_near = λ h. fours_near book.dim (row_of book.dim book.values.now) (vector_of c.args.block.now) (book.count / 4) (subst small w.ensures.sums_are (holds_true h)) }
 
 pub loop-i-preserved : goal.loop-i-preserved
 unfolding of_bits
 loop-i-preserved c =
     let l = c.loop-i in
     let x = vector_of c.args.block.now in
-    let k = length c.args.block.now in
-    let cw = c.args.codewords.now in
+    let k = c.args.codewords.dim in
+    let cw = c.args.codewords.values.now in
     let y = c.squared_distance-distance.result in
     let part = part_distance x cw l.i k (l.i * k) refl in
-    let far : y ≡ distance k x (row_of k cw l.i) = rw c.squared_distance-distance.ensures part in
+    let far : y ≡ distance k x (row_of k cw l.i) = rw (c.squared_distance-distance.ensures, c.requires) part in
     record {
       best_is = λ fine. one_more (λ m. distance k x (row_of k cw m)) l.i (l.i + 1) l.best c.nearer-best.result y refl (l.invariant.best_is (λ m h. fine m (omega arith))) far c.nearer-best.ensures;
       where_near = λ h. let t = holds_true h in one_near k (row_of k cw) x l.i y (l.invariant.where_near (is_true l.near (and_l l.near (lt y (power 250)) t))) far (and_r l.near (lt y (power 250)) t);

@@ -14,8 +14,9 @@ loop-i-init c = refl
 
 pub loop-i-preserved : goal.loop-i-preserved
 loop-i-preserved c =
-    let a = c.args in
+    let book = c.args.codewords in
     let i = c.loop-i.i in
-    let inside : i * a.k + a.k ≤ length a.codewords.now = row_fits i a.n a.k (i * a.k) (length a.codewords.now) c.loop-i-test.true refl c.requires.0 in
-    four_passed a.codewords.now _ i a.k inside c.distances_from-far.result c.distances_from-far.ensures c.loop-i.best _ c.nearer.result c.nearer-in-loop-i.result c.nearer-in-loop-i-2.result c.nearer-in-loop-i-3.result
+    let k = book.dim in
+    let inside : i * k + k ≤ length book.values.now = row_fits i book.count k (i * k) (length book.values.now) c.loop-i-test.true refl book.shape in
+    four_passed book.values.now _ i k inside c.distances_from-far.result c.distances_from-far.ensures c.loop-i.best _ c.nearer.result c.nearer-in-loop-i.result c.nearer-in-loop-i-2.result c.nearer-in-loop-i-3.result
     c.loop-i.invariant c.nearer.ensures c.nearer-in-loop-i.ensures c.nearer-in-loop-i-2.ensures c.nearer-in-loop-i-3.ensures
