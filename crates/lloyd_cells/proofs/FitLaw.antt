@@ -1,8 +1,8 @@
 -- Where the words of the cells stand in the float work. Assumes nothing.
-use mathlib.Core.Path.{◌≡◌, ap}
+use mathlib.Core.Path.{◌≡◌}
 use mathlib.Core.Logic.{◌⊎◌, inl, inr}
 use mathlib.Core.Bool.{Bool, true, false, not}
-use Prim.Native.Nat.{ℕ, suc, ◌+◌, ◌*◌, ◌≤◌, ◌<◌}
+use Prim.Native.Nat.{ℕ, ◌+◌, ◌*◌, ◌≤◌, ◌<◌}
 use native.Mathlib.Nat.{suc-mul, mul-le-mul_right}
 use native.Mathlib.Omega.{arith}
 use lib.Dec.{T, ltb, ltb→lt, nltb→le}
@@ -24,10 +24,3 @@ words_apart p k c e h = go (ltb c e) (ltb→lt c e) (nltb→le c e)
     go : (b : Bool) → (T b → c < e) → (T (not b) → e ≤ c) → (p.words + e * k + k ≤ p.words + c * k) ⊎ (p.words + c * k + k ≤ p.words + e * k)
     go true l g = let m = l tt in inr (omega (arith, mul-le-mul_right k m, suc-mul c k))
     go false l g = let m : e < c = (let le = g tt in omega (arith, h)) in inl (omega (arith, mul-le-mul_right k m, suc-mul e k))
-
--- the word of the next cell begins where that of cell i ends
-pub next_word : (words k i at : ℕ) → at ≡ words + i * k → at + k ≡ words + (i + 1) * k
-next_word words k i at e = let s = suc-mul i k in let o : (i + 1) * k ≡ suc i * k = ap (λ (z : ℕ). z * k) one in omega arith
-  where
-    one : i + 1 ≡ suc i
-    one = omega arith

@@ -59,9 +59,6 @@ module _ (base n k : ℕ) (w : List Float) (c : ℕ) (f : ℕ → Float) where
   row_above i l h = patched_above w (base + c * k) k f i nan (omega (arith, mul-le-mul_right k l))
 
 -- ---- what is left alone
-pub kept_refl : (p : Places) (n k : ℕ) (w : List Float) → Kept p n k w w
-kept_refl p n k w = record { size = refl; below = λ i l. refl; between = λ i l m. refl }
-
 pub kept_trans : (p : Places) (n k : ℕ) (u v w : List Float) → Kept p n k u v → Kept p n k v w → Kept p n k u w
 kept_trans p n k u v w g h = record {
   size = h.size ∙ g.size;

@@ -11,6 +11,11 @@ ghost use Rattle.lloyd_cells.specs.Repair.{donor_to, shift, residual_norm};
 ghost use Rattle.lloyd_cells.specs.Work.{places_at, cleared, Fit, gather_work, means_to, split_work, split_counts};
 
 // Where the parts of an update begin in the float work.
+// Kept: places in a buffer that is lent whole, by the exports' interface. Slices of its parts would be handed to each
+// step one by one, and put together again for what a step says of the whole.
+// Kept: functions over the lent work and counts, four of which ask for `Fit`. Methods of a struct of these would each
+// say that places and coordinates stay; and places that held their own order would leave three facts (where the work
+// ends, how many counts, how many coordinates) in the place of the one.
 #[derive(Clone, Copy)]
 pub struct Places {
     pub words: usize,
@@ -36,19 +41,19 @@ impl Places {
 pub const DONOR_SPLIT_EPSILON: f64 = 1.0e-6;
 
 // Nothing is added up yet: zeros, and farthest distances below every distance.
-pub fn clear(work: &mut [f64], counts: &mut [u32], p: Places, n: usize)
-    requires { (p.words ≤ p.farthest) × (p.farthest + n ≤ length work.old) }
-    ensures work { work.new ≡ cleared p n work.old }
+pub fn clear(work: &mut [f64], counts: &mut [u32], p: Places)
+    requires { (p.words ≤ p.farthest) × (p.farthest + length counts.old ≤ length work.old) }
+    ensures work { work.new ≡ cleared p (length counts.old) work.old }
     ensures counts { counts.new ≡ replicate (length counts.old) 0 }
 {
-    let end = p.farthest + n;
+    let end = p.farthest + counts.len();
     work[p.words..p.farthest].fill(0.0);
     work[p.farthest..end].fill(-1.0);
     counts.fill(0);
 }
 
 // A sample is added to the values from `at` on.
-#[tactic(auto, using(slices::proofs::ListLaw::patched_more, slices::proofs::PartLaw::part_next), unfolding(slices::specs::Lists::patched))]
+#[tactic(auto, using(slices::proofs::ListLaw::patched_more, slices::proofs::PartLaw::part_next, slices::proofs::PartLaw::part_written), unfolding(slices::specs::Lists::patched))]
 pub fn add_to(work: &mut [f64], at: usize, sample: &[f64])
     requires { at + length sample.now ≤ length work.old }
     ensures { work.new
@@ -63,7 +68,7 @@ pub fn add_to(work: &mut [f64], at: usize, sample: &[f64])
 }
 
 // The k values from `at` on are divided by the count.
-#[tactic(auto, using(slices::proofs::ListLaw::patched_more, slices::proofs::PartLaw::part_next), unfolding(slices::specs::Lists::patched))]
+#[tactic(auto, using(slices::proofs::ListLaw::patched_more, slices::proofs::PartLaw::part_next, slices::proofs::PartLaw::part_written), unfolding(slices::specs::Lists::patched))]
 pub fn divide(work: &mut [f64], at: usize, k: usize, count: u32)
     requires { at + k ≤ length work.old }
     ensures { work.new
@@ -86,15 +91,15 @@ fn takes_over(d: f64, best: Option<(usize, f64)>) -> bool
 
 // The cell of tally above 1 with the largest distortion, the last of equals.
 #[tactic(auto, unfolding(crate::specs::Repair::donor_to))]
-pub fn choose_donor(counts: &[u32], n: usize, work: &[f64], distortions: usize) -> Option<usize>
-    requires { (n ≤ length counts.now) × (distortions + n ≤ length work.now) }
+pub fn choose_donor(counts: &[u32], work: &[f64], distortions: usize) -> Option<usize>
+    requires { distortions + length counts.now ≤ length work.now }
     ensures { result ≡ donor_to (λ c. get_or counts.now c 0)
-        (λ c. get_or work.now (distortions + c) nan) n }
+        (λ c. get_or work.now (distortions + c) nan) (length counts.now) }
 {
     let mut best: Option<(usize, f64)> = None;
-    for c in 0..n {
+    for (c, count) in counts.iter().enumerate() {
         let d = work[distortions + c];
-        if 1 < counts[c] && takes_over(d, best) {
+        if 1 < *count && takes_over(d, best) {
             best = Some((c, d));
         }
     }
@@ -124,9 +129,10 @@ pub fn move_to(work: &mut [f64], donor: usize, empty: usize, far: &[f64], norm: 
     }
 }
 
-// Kept: beside `move_to`, since one function for + and - would take a closure and a contract longer than both bodies.
+// Kept: beside `move_to`, which reads one codeword and writes another, where this one reads what it writes: one function
+// for both would take the operation as a closure, and a contract longer than both bodies.
 // The donor's own codeword: moved away from its farthest sample.
-#[tactic(auto, using(slices::proofs::ListLaw::patched_more, slices::proofs::PartLaw::part_next), unfolding(slices::specs::Lists::patched))]
+#[tactic(auto, using(slices::proofs::ListLaw::patched_more, slices::proofs::PartLaw::part_next, slices::proofs::PartLaw::part_written), unfolding(slices::specs::Lists::patched))]
 pub fn move_back(work: &mut [f64], donor: usize, far: &[f64], norm: f64)
     requires { donor + length far.now ≤ length work.old }
     ensures { work.new
@@ -148,12 +154,11 @@ pub fn gather(
     counts: &mut [u32],
     p: Places,
     cell: usize,
-    n: usize,
     sample: &[f64],
     d: f64,
 ) -> bool
-    requires { (cell < n) × (n ≤ length counts.old) × (get_or counts.old cell 0 + 1 < 2 ^ 32)
-        × Fit p n (length sample.now) (length work.old) }
+    requires { (cell < length counts.old) × (get_or counts.old cell 0 + 1 < 2 ^ 32)
+        × Fit p (length counts.old) (length sample.now) (length work.old) }
     ensures far { result ≡ lt (get_or work.old (p.farthest + cell) nan) d }
     ensures work { work.new
         ≡ gather_work p (length sample.now) cell sample.now d work.old }
@@ -176,14 +181,13 @@ pub fn gather(
 
 // The sums of the cells with samples become their means.
 #[tactic(auto, using(crate::proofs::FitLaw::word_within), unfolding(crate::specs::Work::means_to))]
-pub fn means(work: &mut [f64], counts: &[u32], p: Places, n: usize, k: usize)
-    requires { (n ≤ length counts.now) × Fit p n k (length work.old) }
-    ensures { work.new ≡ means_to p k counts.now work.old n }
+pub fn means(work: &mut [f64], counts: &[u32], p: Places, k: usize)
+    requires { Fit p (length counts.now) k (length work.old) }
+    ensures { work.new ≡ means_to p k counts.now work.old (length counts.now) }
 {
-    for c in 0..n {
-        let count = counts[c];
-        if 0 < count {
-            divide(&mut *work, p.words + c * k, k, count);
+    for (c, count) in counts.iter().enumerate() {
+        if 0 < *count {
+            divide(&mut *work, p.words + c * k, k, *count);
         }
     }
 }
@@ -199,6 +203,8 @@ pub fn residual_norm(work: &[f64], at: usize, far: &[f64]) -> f64
 }
 
 // The donor is split for the empty cell.
+// Kept: donor, far and norm are parameters; only this and the repair that calls it share all of them, since
+// the donor of `move_to` and `move_back` is a place in the work.
 #[tactic(auto, using(crate::proofs::FitLaw::word_within, crate::proofs::FitLaw::words_apart))]
 pub fn split_cell(
     work: &mut [f64],
@@ -206,12 +212,12 @@ pub fn split_cell(
     p: Places,
     donor: usize,
     empty: usize,
-    n: usize,
     far: &[f64],
     norm: f64,
 )
-    requires { (donor < n) × (empty < n) × (donor ≡ empty → ⊥) × (n ≤ length counts.old)
-        × (0 < get_or counts.old donor 0) × Fit p n (length far.now) (length work.old) }
+    requires { (donor < length counts.old) × (empty < length counts.old) × (donor ≡ empty → ⊥)
+        × (0 < get_or counts.old donor 0)
+        × Fit p (length counts.old) (length far.now) (length work.old) }
     ensures work { work.new
         ≡ split_work p (length far.now) donor empty far.now norm work.old }
     ensures counts { counts.new ≡ split_counts donor empty counts.old }

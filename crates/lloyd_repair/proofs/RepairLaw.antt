@@ -1,5 +1,9 @@
 -- What a repair leaves in the work, and what a refused one comes to. Assumes nothing.
-use Rattle.std.proofs.Common.{◌≡◌, ℕ, suc, ◌+◌, ◌-◌, ◌<◌, ◌≤◌, true, false, List, [], ◌∷◌, ◌++◌, length, get_or, set, sym, refl, ap, ◌∙◌, subst, add-one, arith, length-set, get_or-set_other, eq-eqb, ne_eqb, le-leb, None}
+use Rattle.std.proofs.Common.{◌≡◌, ℕ, suc, ◌+◌, ◌-◌, ◌<◌, ◌≤◌, true, false, List, [], ◌∷◌, ◌++◌, length, get_or, set, sym, refl, ap, ◌∙◌, subst, add-one, arith, length-set, get_or-set_other, take, drop, eq-eqb, ne_eqb, le-leb, None}
+use lib.ListN.{take-append-drop}
+use lib.Seq.{get_or-take, length-take-le}
+use Rattle.std.proofs.Math.Seq.{take-set-lt}
+use Rattle.std.proofs.lemmas.List.{drop-set-lt}
 use native.Mathlib.Decide.{ℕ_discrete}
 use lib.Ieee.{Float, nan, le}
 use borrow.Author.Tests.{lt-leb}
@@ -9,6 +13,7 @@ use Rattle.lloyd_events.specs.declared.LloydRepairEvent.{LloydRepairEvent}
 use Rattle.lloyd_cells.specs.declared.Places.{Places}
 use Rattle.lloyd_cells.specs.Repair.{Cells, Terms, Repaired, donor_to, repair_cell, repair_to, residual_norm, least_norm, split, event_of}
 use Rattle.lloyd_cells.specs.Work.{Fit, Kept, split_work, split_counts}
+use Rattle.lloyd_cells.proofs.DonorLaw.{donor_to_ext}
 use Rattle.lloyd_cells.proofs.WorkLaw.{held_split, split_kept, held_donor}
 use Rattle.lloyd_repair.specs.declared.Numbers.{Numbers}
 use Rattle.lloyd_repair.specs.declared.Numbers.TheVariants.{InFloats, InInts}
@@ -16,8 +21,24 @@ use Rattle.lloyd_repair.specs.Running.{cells_in, NumberAt, NumbersFit, HoldsFart
 use Rattle.lloyd_repair.proofs.TurnLaw.{at_turn, is_empty, skip, stays, no_donor, no_direction, no_slot, one_repair}
 use Rattle.lloyd_repair.proofs.DonorFacts.{below, tally_two, tally_none, apart, found}
 
-pub behind_refl : (n : ℕ) (ints : List ℕ) → BehindKept n ints ints
-behind_refl n ints = record { size = refl; behind = λ i l. refl }
+-- ---- the counts alone, in front of what stands behind them
+module _ (n c e : ℕ) (ints : List ℕ) (h : c < n) where
+  pub front_count : get_or (take n ints) c 0 ≡ get_or ints c 0
+  front_count = get_or-take n ints c 0 h
+
+  pub front_split : e < n → split_counts c e (take n ints) ++ drop n ints ≡ split_counts c e ints
+  front_split l =
+      let less = get_or ints c 0 - 1 in
+      let given = set ints c less in
+      rw (front_count, ← take-set-lt n ints c less h, ← take-set-lt n given e 1 l, ← drop-set-lt n ints c less h, ← drop-set-lt n given e 1 l)
+      (take-append-drop n (set given e 1))
+
+  pub front_event : (t : Terms) (p : Places) (k : ℕ) (work : List Float) (norm : Float) → event_of t (cells_in p k work (take n ints)) c e norm ≡ event_of t (cells_in p k work ints) c e norm
+  front_event t p k work norm = rw front_count
+
+-- and they show the same donor
+pub front_donor : (n : ℕ) (ints : List ℕ) (d : ℕ → Float) → n ≤ length ints → donor_to (λ c. get_or (take n ints) c 0) d (length (take n ints)) ≡ donor_to (λ c. get_or ints c 0) d n
+front_donor n ints d l = rw (length-take-le n ints l) (donor_to_ext (λ c. get_or (take n ints) c 0) (λ c. get_or ints c 0) d d n (λ i h. get_or-take n ints i 0 h) (λ i h. refl))
 
 -- ---- the turn of an empty cell
 module _ (t : Terms) (far : ℕ → ℕ → Float) (start : Cells) (e : ℕ) (r : Repaired) (came : repair_to t far start e ≡ completed r) (none : r.cells.tally e ≡ 0) where
@@ -41,7 +62,7 @@ module _ {p : Places} {m : Numbers} {t : Terms} {samples : List Float} {e donor 
 
 -- ---- cells that are not empty are passed over
 module _ {p : Places} {m : Numbers} {t : Terms} {samples : List Float} {from : ℕ} {work : List Float} {ints : List ℕ} {far : ℕ → ℕ → Float} {start : Cells} {r : Repaired}
-    (run : Running p m t samples far start from r work ints) (e : ℕ) (later : from ≤ e) (reached : e ≤ t.cells) (none : (c : ℕ) → from ≤ c → c < e → get_or ints c 0 ≡ 0 → ⊥) where
+    (run : Running p m t samples far start from r work ints) (e : ℕ) (later : from ≤ e) (reached : e ≤ t.cells) (none : (c : ℕ) → from ≤ c → c < e → get_or (take t.cells ints) c 0 ≡ 0 → ⊥) where
   pub passed : Running p m t samples far start e r work ints
   passed = record {
     fit = run.fit;
@@ -49,17 +70,18 @@ module _ {p : Places} {m : Numbers} {t : Terms} {samples : List Float} {from : �
     counts = run.counts;
     room = run.room;
     reached = reached;
-    came = skip t far start from e r later run.came (λ c u v z. none c u v (run.held.tally c (omega arith) ∙ z));
+    came = skip t far start from e r later run.came (λ c u v z. none c u v (get_or-take t.cells ints c 0 (omega arith) ∙ run.held.tally c (omega arith) ∙ z));
     held = run.held;
     farthest = run.farthest;
   }
 
   -- to an empty one, for which no cell may give
-  pub none_gives : e < t.cells → get_or ints e 0 ≡ 0 → donor_to (λ c. get_or ints c 0) (λ c. get_or work (p.distortions + c) nan) t.cells ≡ None
+  pub none_gives : e < t.cells → get_or (take t.cells ints) e 0 ≡ 0
+      → donor_to (λ c. get_or (take t.cells ints) c 0) (λ c. get_or work (p.distortions + c) nan) (length (take t.cells ints)) ≡ None
       → repair_to t far start t.cells ≡ refused 15 (whole e ∷ [])
   none_gives l z h =
-      all_refused t far start e r passed.came (sym (run.held.tally e l) ∙ z) 15 (whole e ∷ []) l
-      (no_donor t far e r (sym (held_donor p t.cells t.dim r.cells work ints run.held) ∙ h))
+      all_refused t far start e r passed.came (sym (run.held.tally e l) ∙ sym (get_or-take t.cells ints e 0 l) ∙ z) 15 (whole e ∷ []) l
+      (no_donor t far e r (sym (held_donor p t.cells t.dim r.cells work ints run.held) ∙ sym (front_donor t.cells ints (λ c. get_or work (p.distortions + c) nan) run.counts) ∙ h))
 
 -- ---- a split
 -- a cell that may give after it could before

@@ -52,13 +52,14 @@ fn number_of(m: Numbers, work: &[f64], ints: &[u32], cell: usize) -> usize
 }
 
 // The first empty cell from `from` on.
-fn next_empty(counts: &[u32], n: usize, from: usize) -> Option<usize>
-    requires { n ≤ length counts.now }
-    ensures { MatchOption result ((c : ℕ) → from ≤ c → c < n → slice_index counts.now c ≢ 0)
-        (λ e. (from ≤ e) × (e < n) × ((c : ℕ) → from ≤ c → c < e → slice_index counts.now c ≢ 0)
+fn next_empty(counts: &[u32], from: usize) -> Option<usize>
+    ensures { MatchOption result
+        ((c : ℕ) → from ≤ c → c < length counts.now → slice_index counts.now c ≢ 0)
+        (λ e. (from ≤ e) × (e < length counts.now)
+        × ((c : ℕ) → from ≤ c → c < e → slice_index counts.now c ≢ 0)
         × (slice_index counts.now e ≡ 0)) }
 {
-    for c in from..n {
+    for c in from..counts.len() {
         if counts[c] == 0 {
             return Some(c);
         }
@@ -69,7 +70,7 @@ fn next_empty(counts: &[u32], n: usize, from: usize) -> Option<usize>
 // The donor is split for the empty cell e. Answers with the event of that, which shows the donor as it stood.
 fn fill(
     work: &mut [f64],
-    ints: &mut [u32],
+    counts: &mut [u32],
     p: Places,
     t: RepairTerms,
     donor: usize,
@@ -77,14 +78,15 @@ fn fill(
     far: &[f64],
     norm: f64,
 ) -> LloydRepairEvent
-    requires { (donor < t.cells) × (e < t.cells) × (donor ≢ e) × (t.cells ≤ length ints.old)
-        × (0 < slice_index ints.old donor) × Fit p t.cells (length far.now) (length work.old)
-        × (t.cells ≤ 1048576) }
+    requires { (donor < length counts.old) × (e < length counts.old) × (donor ≢ e)
+        × (0 < slice_index counts.old donor)
+        × Fit p (length counts.old) (length far.now) (length work.old)
+        × (length counts.old ≤ 1048576) }
     ensures event { result
-        ≡ event_of (terms_of t) (cells_in p t.dim work.old ints.old) donor e norm }
+        ≡ event_of (terms_of t) (cells_in p t.dim work.old counts.old) donor e norm }
     ensures work { work.new
         ≡ split_work p (length far.now) donor e far.now norm work.old }
-    ensures counts { ints.new ≡ split_counts donor e ints.old }
+    ensures counts { counts.new ≡ split_counts donor e counts.old }
 {
     let place = p.distortions + donor;
     let event = LloydRepairEvent {
@@ -92,17 +94,17 @@ fn fill(
         iteration: t.iteration,
         empty_cell: e as u32,
         donor_cell: donor as u32,
-        donor_count_before: ints[donor],
+        donor_count_before: counts[donor],
         donor_distortion: work[place],
         residual_norm: norm,
         split_epsilon: lloyd_cells::DONOR_SPLIT_EPSILON,
     };
-    let n = t.cells;
-    lloyd_cells::split_cell(work, ints, p, donor, e, n, far, norm);
+    lloyd_cells::split_cell(work, counts, p, donor, e, far, norm);
     event
 }
 
 // The empty cell e is repaired from its donor, if it can be.
+// Kept: its parameters are those of `repair_next`, and of no third function; work and ints are written.
 fn repair_from(
     work: &mut [f64],
     ints: &mut [u32],
@@ -136,7 +138,8 @@ fn repair_from(
     if free <= used {
         return Err(Refusal::EventSlotsUsed(t.shown as u64));
     }
-    let event = fill(work, ints, p, t, donor, e, far, norm);
+    let n = t.cells;
+    let event = fill(work, &mut ints[..n], p, t, donor, e, far, norm);
     let next = e + 1;
     Ok(Some(Repair { event, next }))
 }
@@ -161,12 +164,11 @@ pub fn repair_next(
     ensures kept { Kept p t.cells t.dim work.old work.new }
     ensures ints { BehindKept t.cells ints.old ints.new }
 {
-    let n = t.cells;
-    let Some(e) = next_empty(&*ints, n, from) else {
+    let counts = &ints[..t.cells];
+    let Some(e) = next_empty(counts, from) else {
         return Ok(None);
     };
-    let donor = lloyd_cells::choose_donor(&*ints, n, &*work, p.distortions).ok_or(Refusal::NoDonor(
-        e as u64,
-    ))?;
+    let found = lloyd_cells::choose_donor(counts, &*work, p.distortions);
+    let donor = found.ok_or(Refusal::NoDonor(e as u64))?;
     repair_from(work, ints, samples, p, m, t, e, donor, used)
 }

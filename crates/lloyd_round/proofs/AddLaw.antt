@@ -7,7 +7,7 @@ use native.Mathlib.Omega.{arith}
 use native.Mathlib.Decide.{ℕ_discrete}
 use mathlib.Core.Bool.{Bool, true, false, cond}
 use mathlib.Core.List.{List}
-use lib.ListN.{length, get_or, set, take, drop, length-set}
+use lib.ListN.{length, get_or, set, take, drop}
 use lib.Seq.{get_or-set_same, get_or-set_other, get_or-take, length-take-le, ext_get_or}
 use lib.Ieee.{Float, nan, lt}
 use Rattle.slices.proofs.TabulateLaw.{get_d_tabulate}
@@ -17,12 +17,12 @@ use Rattle.lloyd_search.specs.Nearest.{nearest}
 use Rattle.lloyd_search.proofs.NearestLaw.{index_below}
 use Rattle.lloyd_search.proofs.Parts.{part_length, part_row, distance_ext, nearest_ext}
 use Rattle.lloyd_cells.specs.declared.Places.{Places}
-use Rattle.lloyd_cells.specs.Cells.{count_to, Farthest, farthest}
-use Rattle.lloyd_cells.specs.Work.{Fit, Kept, Gathered, gather_work}
+use Rattle.lloyd_cells.specs.Cells.{Farthest, farthest}
+use Rattle.lloyd_cells.specs.Work.{Fit, Kept, Gathered}
 use Rattle.lloyd_cells.proofs.CellsLaw.{count_to_upto, farthest_in, farthest_out}
 use Rattle.lloyd_cells.proofs.WorkLaw.{kept_trans, gathered_next, gather_kept}
 use Rattle.lloyd_round.specs.Round.{cell_of, places_of, Roomy}
-use Rattle.lloyd_round.specs.Adding.{front, joins, join_work, join_ints, Addable, distance_of, Added}
+use Rattle.lloyd_round.specs.Adding.{front, joins, join_work, join_counts, join_numbers, Addable, distance_of, Added}
 
 -- the parts of the work
 pub shape : (n k L : ℕ) → 0 < k → L ≡ 3 * (n * k) + 2 * n → Fit (places_of n k) n k L
@@ -48,25 +48,12 @@ front_same n k w v room size same =
     ext_get_or nan (front n k v) (front n k w) (b ∙ sym a)
     (λ i l. let m : i < n * k = omega arith in get_or-take (n * k) v i nan m ∙ same i m ∙ sym (get_or-take (n * k) w i nan m))
 
--- ---- in cells a, at distances d, with the numbers of the farthest samples behind the counts
-module _ (p : Places) (n k : ℕ) (a : ℕ → ℕ) (x : ℕ → ℕ → Float) (d : ℕ → Float) (s cell : ℕ) (sample : List Float) (dist : Float) (work : List Float) (ints : List ℕ) where
-  abbrev counted : List ℕ
-  counted = set ints cell (get_or ints cell 0 + 1)
-
+-- ---- in cells a, at distances d: the numbers of the farthest samples
+module _ (p : Places) (n k : ℕ) (a : ℕ → ℕ) (x : ℕ → ℕ → Float) (d : ℕ → Float) (s cell : ℕ) (dist : Float) (work : List Float) (counts numbers : List ℕ) where
   abbrev noted : Bool → List ℕ
-  noted b = cond b (set counted (n + cell) s) counted
+  noted b = cond b (set numbers cell s) numbers
 
-  module _ (fit : Fit p n k (length work)) (is : a s ≡ cell) (l : cell < n) (m : n + n ≤ length ints) (dist_is : d s ≡ dist) (g : Gathered p n k a x d s work ints) where
-    pub noted_gathered : ((j : ℕ) → j < k → vector_of sample j ≡ x s j) → (b : Bool) → Gathered p n k a x d (suc s) (gather_work p k cell sample dist work) (noted b)
-    noted_gathered row b = record { tally = tally b; sums = next.sums; distortions = next.distortions; distances = next.distances }
-      where
-        next : Gathered p n k a x d (suc s) (gather_work p k cell sample dist work) counted
-        next = gathered_next p n k a x d s work ints cell sample dist fit g is l (omega arith) row dist_is
-
-        tally : (b : Bool) (c : ℕ) → c < n → get_or (noted b) c 0 ≡ count_to a c (suc s)
-        tally true c o = get_or-set_other counted (n + cell) c s 0 (λ e. omega arith) ∙ next.tally c o
-        tally false c o = next.tally c o
-
+  module _ (is : a s ≡ cell) (l : cell < n) (m : length numbers ≡ n) (dist_is : d s ≡ dist) (g : Gathered p n k a x d s work counts) (h : (c : ℕ) → c < n → get_or numbers c 0 ≡ (farthest a d c s).sample) where
     -- the cell's farthest sample, by the test
     own : (b : Bool) → lt (get_or work (p.farthest + cell) nan) dist ≡ b → farthest a d cell (suc s) ≡ cond b (record { sample = s; distance = d s }) (farthest a d cell s)
     own b t = farthest_in a cell s d is ∙ ap (λ (z : Bool). cond z (record { sample = s; distance = d s }) (farthest a d cell s)) test
@@ -74,23 +61,19 @@ module _ (p : Places) (n k : ℕ) (a : ℕ → ℕ) (x : ℕ → ℕ → Float) 
         test : lt (farthest a d cell s).distance (d s) ≡ b
         test = rw (← g.distances cell l, dist_is) t
 
-    module _ (h : (c : ℕ) → c < n → get_or ints (n + c) 0 ≡ (farthest a d c s).sample) where
-      stays : (c : ℕ) → c < n → get_or counted (n + c) 0 ≡ (farthest a d c s).sample
-      stays c o = get_or-set_other ints cell (n + c) (get_or ints cell 0 + 1) 0 (λ e. omega arith) ∙ h c o
+    here : (b : Bool) → lt (get_or work (p.farthest + cell) nan) dist ≡ b → get_or (noted b) cell 0 ≡ (farthest a d cell (suc s)).sample
+    here true t = get_or-set_same numbers cell s 0 (omega arith) ∙ ap (λ (z : Farthest). z.sample) (sym (own true t))
+    here false t = h cell l ∙ ap (λ (z : Farthest). z.sample) (sym (own false t))
 
-      here : (b : Bool) → lt (get_or work (p.farthest + cell) nan) dist ≡ b → get_or (noted b) (n + cell) 0 ≡ (farthest a d cell (suc s)).sample
-      here true t = let e = length-set ints cell (get_or ints cell 0 + 1) in get_or-set_same counted (n + cell) s 0 (omega arith) ∙ ap (λ (z : Farthest). z.sample) (sym (own true t))
-      here false t = stays cell l ∙ ap (λ (z : Farthest). z.sample) (sym (own false t))
+    elsewhere : (b : Bool) (c : ℕ) → c < n → (c ≡ cell → ⊥) → get_or (noted b) c 0 ≡ (farthest a d c s).sample
+    elsewhere true c o q = get_or-set_other numbers cell c s 0 q ∙ h c o
+    elsewhere false c o q = h c o
 
-      elsewhere : (b : Bool) (c : ℕ) → c < n → (c ≡ cell → ⊥) → get_or (noted b) (n + c) 0 ≡ (farthest a d c s).sample
-      elsewhere true c o q = get_or-set_other counted (n + cell) (n + c) s 0 (λ e. q (omega arith)) ∙ stays c o
-      elsewhere false c o q = stays c o
-
-      pub noted_numbers : (b : Bool) → lt (get_or work (p.farthest + cell) nan) dist ≡ b → (c : ℕ) → c < n → get_or (noted b) (n + c) 0 ≡ (farthest a d c (suc s)).sample
-      noted_numbers b t c o = elim (ℕ_discrete c cell) [
-        | yes q ↦ rw q (here b t)
-        | no q ↦ elsewhere b c o q ∙ ap (λ (z : Farthest). z.sample) (sym (farthest_out a c s d (λ f. q (sym f ∙ is))))
-      ]
+    pub noted_numbers : (b : Bool) → lt (get_or work (p.farthest + cell) nan) dist ≡ b → (c : ℕ) → c < n → get_or (noted b) c 0 ≡ (farthest a d c (suc s)).sample
+    noted_numbers b t c o = elim (ℕ_discrete c cell) [
+      | yes q ↦ rw q (here b t)
+      | no q ↦ elsewhere b c o q ∙ ap (λ (z : Farthest). z.sample) (sym (farthest_out a c s d (λ f. q (sym f ∙ is))))
+    ]
 
 -- ---- sample s of a round, given as a list of its coordinates
 module _ (k n S : ℕ) (samples : List Float) (s : ℕ) (sample work : List Float) (below : s < S) (row : (j : ℕ) → j < k → vector_of sample j ≡ row_of k samples s j) where
@@ -116,16 +99,17 @@ module _ (k n S : ℕ) (samples : List Float) (s : ℕ) (sample work : List Floa
   pub join_kept : 0 < n → Fit (places_of n k) n k (length work) → Kept (places_of n k) n k work (join_work n k sample work)
   join_kept h fit = gather_kept (places_of n k) n k cell sample (joins n k sample work).distance work fit (cell_below h)
 
-  pub join_added : (ints : List ℕ) → 0 < n → Fit (places_of n k) n k (length work) → n + n ≤ length ints → Added k n S samples codebook s work ints
-      → Added k n S samples codebook (s + 1) (join_work n k sample work) (join_ints n k sample work s ints)
-  join_added ints h fit m g =
+  pub join_added : (counts numbers : List ℕ) → 0 < n → Fit (places_of n k) n k (length work) → n ≤ length counts → length numbers ≡ n → Added k n S samples codebook s work counts numbers
+      → Added k n S samples codebook (s + 1) (join_work n k sample work) (join_counts n k sample work counts) (join_numbers n k sample work s numbers)
+  join_added counts numbers h fit m q g =
+      let p = places_of n k in
       let a = cell_of k n S samples codebook in
+      let x = row_of k samples in
       let d = distance_of k n S samples codebook in
       let dist = (joins n k sample work).distance in
-      let b = lt (get_or work ((places_of n k).farthest + cell) nan) dist in
       rw (add-one s) (record {
-        gathered = noted_gathered (places_of n k) n k a (row_of k samples) d s cell sample dist work ints fit is_cell (cell_below h) m is_distance g.gathered row b;
-        numbers = noted_numbers (places_of n k) n k a (row_of k samples) d s cell sample dist work ints fit is_cell (cell_below h) m is_distance g.gathered g.numbers b refl;
+        gathered = gathered_next p n k a x d s work counts cell sample dist fit g.gathered is_cell (cell_below h) m row is_distance;
+        noted = noted_numbers p n k a x d s cell dist work counts numbers is_cell (cell_below h) q is_distance g.gathered g.noted (lt (get_or work (p.farthest + cell) nan) dist) refl;
       })
 
 -- ---- the cell and the distance as a program has them
@@ -133,24 +117,9 @@ module _ (n k : ℕ) (sample work : List Float) (near : Found) (is-near : near �
   pub near_below : 0 < n → near.index < n
   near_below h = rw is-near (index_below (λ i. distance k (vector_of sample) (row_of k (front n k work) i)) n h)
 
-  module _ (p : Places) (is-p : p ≡ places_of n k) where
-    pub joined_work : (after : List Float) → after ≡ gather_work p k near.index sample near.distance work → after ≡ join_work n k sample work
-    joined_work after e = e ∙ rw (is-p, is-near)
-
-    module _ (s : ℕ) (ints left : List ℕ) (e : left ≡ set ints near.index (get_or ints near.index 0 + 1)) where
-      choice : (b : Bool) → lt (get_or work (p.farthest + near.index) nan) near.distance ≡ b
-          → join_ints n k sample work s ints ≡ cond b (set left (n + near.index) s) left
-      choice b t = rw (e, ← t, is-p, is-near)
-
-      pub joined_farther : lt (get_or work (p.farthest + near.index) nan) near.distance ≡ true → set left (n + near.index) s ≡ join_ints n k sample work s ints
-      joined_farther t = sym (choice true t)
-
-      pub joined_nearer : lt (get_or work (p.farthest + near.index) nan) near.distance ≡ false → left ≡ join_ints n k sample work s ints
-      joined_nearer t = sym (choice false t)
-
 -- ---- the next sample of a loop, after s of them
-module _ {n k S : ℕ} {samples work₀ : List Float} {ints₀ : List ℕ} (good : Roomy n k S samples work₀ ints₀) (s : ℕ) (work : List Float) (ints : List ℕ) (below : s < S)
-    (size : length ints ≡ length ints₀) (kept : Kept (places_of n k) n k work₀ work) (g : Added k n S samples (front n k work₀) s work ints) where
+module _ {n k S : ℕ} {samples work₀ : List Float} {ints₀ : List ℕ} (good : Roomy n k S samples work₀ ints₀) (s : ℕ) (work : List Float) (counts numbers : List ℕ) (below : s < S)
+    (tallies : length counts ≡ n) (places : length numbers ≡ n) (kept : Kept (places_of n k) n k work₀ work) (g : Added k n S samples (front n k work₀) s work counts numbers) where
   abbrev part : List Float
   part = take (s * k + k - s * k) (drop (s * k) samples)
 
@@ -169,27 +138,29 @@ module _ {n k S : ℕ} {samples work₀ : List Float} {ints₀ : List ℕ} (good
   same_front : front n k work ≡ front n k work₀
   same_front = front_same n k work₀ work (omega (arith, good.floats)) kept.size (λ i l. kept.below i (omega arith))
 
-  pub addable : Addable n (length (take (s * k + k - s * k) (drop (s * k) samples))) s work ints
+  pub addable : Addable (length part) s work counts numbers
   addable = rw part-size (record {
     some = good.some;
     least = good.least;
-    any = good.any;
-    most = good.most;
+    any = rw tallies good.any;
+    most = rw tallies good.most;
     few = omega (arith, good.few);
-    floats = kept.size ∙ good.floats;
-    integers = omega (arith, good.integers);
-    counts = λ c l. omega (arith, g.gathered.tally c l, count_to_upto (cell_of k n S samples (front n k work₀)) c s);
+    floats = rw tallies (kept.size ∙ good.floats);
+    integers = places ∙ sym tallies;
+    upto = λ c l. omega (arith, g.gathered.tally c (rw tallies at l), count_to_upto (cell_of k n S samples (front n k work₀)) c s);
   })
 
-  module _ (after : List Float) (is-after : after ≡ join_work n (length (take (s * k + k - s * k) (drop (s * k) samples))) (take (s * k + k - s * k) (drop (s * k) samples)) work) where
+  module _ (after : List Float) (is-after : after ≡ join_work (length counts) (length part) part work) where
     joined : after ≡ join_work n k part work
-    joined = is-after ∙ ap (λ (z : ℕ). join_work n z part work) part-size
+    joined = is-after ∙ rw (tallies, part-size)
 
     pub next_kept : Kept (places_of n k) n k work₀ after
     next_kept = kept_trans (places_of n k) n k work₀ work after kept (rw joined (join_kept k n S samples s part work below part_is good.any fit))
 
-    pub next_added : (left : List ℕ) → left ≡ join_ints n (length (take (s * k + k - s * k) (drop (s * k) samples))) (take (s * k + k - s * k) (drop (s * k) samples)) work s ints
-        → Added k n S samples (front n k work₀) (s + 1) after left
-    next_added left e =
-        rw (joined, e, part-size, ← same_front)
-        (join_added k n S samples s part work below part_is ints good.any fit (omega (arith, good.integers)) (rw same_front g))
+    pub next_added : (left noted : List ℕ)
+        → left ≡ join_counts (length counts) (length part) part work counts
+        → noted ≡ join_numbers (length counts) (length part) part work s numbers
+        → Added k n S samples (front n k work₀) (s + 1) after left noted
+    next_added left noted e q =
+        rw (joined, e, q, tallies, part-size, ← same_front)
+        (join_added k n S samples s part work below part_is counts numbers good.any fit (omega arith) places (rw same_front g))

@@ -28,31 +28,33 @@ module _ (n k : ℕ) (sample : List Float) (work : List Float) where
   abbrev pub join_work : List Float
   join_work = gather_work (places_of n k) k joins.index sample joins.distance work
 
-  -- it is counted, and noted where it is farther than all before it
-  abbrev pub join_ints : ℕ → List ℕ → List ℕ
-  join_ints s ints =
-      let counted = set ints joins.index (get_or ints joins.index 0 + 1) in
-      cond (lt (get_or work ((places_of n k).farthest + joins.index) nan) joins.distance)
-      (set counted (n + joins.index) s) counted
+  -- it is counted
+  abbrev pub join_counts : List ℕ → List ℕ
+  join_counts counts = set counts joins.index (get_or counts joins.index 0 + 1)
+
+  -- and noted where it is farther than all before it
+  abbrev pub join_numbers : ℕ → List ℕ → List ℕ
+  join_numbers s numbers =
+      cond (lt (get_or work ((places_of n k).farthest + joins.index) nan) joins.distance) (set numbers joins.index s) numbers
 
 -- lengths and limits for that
-pub record Addable (n k s : ℕ) (work : List Float) (ints : List ℕ) : Type 0 where
+pub record Addable (k s : ℕ) (work : List Float) (counts numbers : List ℕ) : Type 0 where
   pub some : 0 < k
   pub least : k ≤ 256
-  pub any : 0 < n
-  pub most : n ≤ 1048576
+  pub any : 0 < length counts
+  pub most : length counts ≤ 1048576
   pub few : s < 10000000
-  pub floats : length work ≡ 3 * (n * k) + 2 * n
-  pub integers : length ints ≡ 2 * n
-  pub counts : (c : ℕ) → c < n → get_or ints c 0 ≤ s
+  pub floats : length work ≡ 3 * (length counts * k) + 2 * length counts
+  pub integers : length numbers ≡ length counts
+  pub upto : (c : ℕ) → c < length counts → get_or counts c 0 ≤ s
 
 -- ---- of S samples the first s are added up, and the numbers of the farthest ones noted
 module _ (k n S : ℕ) (samples codebook : List Float) where
   abbrev pub distance_of : ℕ → Float
   distance_of = old_distance k S (row_of k samples) (cell_of k n S samples codebook) (row_of k codebook)
 
-pub record Added (k n S : ℕ) (samples codebook : List Float) (s : ℕ) (work : List Float) (ints : List ℕ) : Type 0 where
+pub record Added (k n S : ℕ) (samples codebook : List Float) (s : ℕ) (work : List Float) (counts numbers : List ℕ) : Type 0 where
   pub gathered : Gathered (places_of n k) n k (cell_of k n S samples codebook) (row_of k samples)
-      (distance_of k n S samples codebook) s work ints
-  pub numbers : (c : ℕ) → c < n
-      → get_or ints (n + c) 0 ≡ (farthest (cell_of k n S samples codebook) (distance_of k n S samples codebook) c s).sample
+      (distance_of k n S samples codebook) s work counts
+  pub noted : (c : ℕ) → c < n
+      → get_or numbers c 0 ≡ (farthest (cell_of k n S samples codebook) (distance_of k n S samples codebook) c s).sample

@@ -1,5 +1,5 @@
 -- One sample more is added up: its cell, its distance, and the number of its cell's farthest sample. Assumes nothing.
-use Rattle.std.proofs.Common.{◌≡◌, ℕ, suc, ◌+◌, ◌-◌, ◌*◌, ◌<◌, ◌≤◌, Bool, true, false, cond, List, length, get_or, take, drop, set, pos, sym, refl, ap, ◌∙◌, subst, mul-le-mul, le-mul_of_pos_right, add-one, arith, get_or-set_other, get_or-set_same}
+use Rattle.std.proofs.Common.{◌≡◌, ℕ, suc, ◌+◌, ◌-◌, ◌*◌, ◌<◌, ◌≤◌, Bool, true, false, cond, List, length, get_or, take, drop, set, pos, sym, refl, ap, ◌∙◌, mul-le-mul, le-mul_of_pos_right, add-one, arith, get_or-set_other, get_or-set_same}
 use native.Mathlib.Decide.{ℕ_discrete}
 use lib.Ieee.{Float, nan, binary64, lt, of_int}
 use Rattle.lloyd_search.specs.Distance.{distance, vector_of, row_of}
@@ -10,7 +10,8 @@ use Rattle.lloyd_cells.specs.Work.{Fit, Gathered, gather_work}
 use Rattle.lloyd_cells.proofs.CellsLaw.{farthest_in, farthest_out}
 use Rattle.lloyd_cells.proofs.WorkLaw.{gathered_next, gathered_same, gather_kept}
 use Rattle.lloyd_update.specs.Alone.{Call}
-use Rattle.lloyd_update.specs.Progress.{places_of, cell_of, sample_of, distance_of, Added, Addable}
+use Rattle.lloyd_update.specs.declared.UpdateTerms.{UpdateTerms}
+use Rattle.lloyd_update.specs.Progress.{call_of, places_of, cell_of, sample_of, distance_of, Added, Addable}
 
 -- the parts of the work of an update alone
 pub shape : (n k L : ℕ) → 0 < k → L ≡ 2 * (n * k) + 2 * n → Fit (places_of n k) n k L
@@ -89,16 +90,25 @@ module _ (c : Call) (s cell : ℕ) (sample : List Float) (d : Float) (work : Lis
           let e = (gather_kept (places_of c.size c.dim) c.size c.dim cell sample d work fit l).size in
           omega arith
 
--- ---- the same, for every call that was made with these values
-module _ (n k : ℕ) (codebook samples : List Float) (assignments : List ℕ) (work₀ : List Float) (counts₀ : List ℕ) where
+-- ---- the same, for every call that was told this
+module _ (t : UpdateTerms) (codebook work₀ : List Float) (counts₀ : List ℕ) where
   abbrev pub AddedTo : ℕ → List Float → List ℕ → Type 0
   AddedTo s work counts =
-      (c : Call) → c.size ≡ n → c.dim ≡ k → c.codebook ≡ codebook → c.samples ≡ samples → c.assignments ≡ assignments → Added c 0 work₀ counts₀ → Added c s work counts
+      (floats integers slots : ℕ) → Added (call_of t codebook floats integers slots) 0 work₀ counts₀ → Added (call_of t codebook floats integers slots) s work counts
 
-module _ {n k : ℕ} {codebook samples : List Float} {assignments : List ℕ} {work₀ : List Float} {counts₀ : List ℕ} (good : Addable n k codebook samples assignments work₀ counts₀) (s : ℕ) (work : List Float) (counts : List ℕ) (below : s < length assignments)
+module _ (t : UpdateTerms) {codebook work₀ : List Float} {counts₀ : List ℕ} (good : Addable t.codebook_size t.block_dim codebook t.samples.now t.assignments.now work₀ counts₀) (s : ℕ) (work : List Float) (counts : List ℕ) (below : s < length t.assignments.now)
     (size : length work ≡ length work₀) (cells : length counts ≡ length counts₀) where
+  abbrev n : ℕ
+  n = t.codebook_size
+
+  abbrev k : ℕ
+  k = t.block_dim
+
+  abbrev samples : List Float
+  samples = t.samples.now
+
   abbrev cell : ℕ
-  cell = get_or assignments s 0
+  cell = get_or t.assignments.now s 0
 
   abbrev part : List Float
   part = take (s * k + k - s * k) (drop (s * k) samples)
@@ -106,83 +116,54 @@ module _ {n k : ℕ} {codebook samples : List Float} {assignments : List ℕ} {w
   abbrev word : List Float
   word = take (cell * k + k - cell * k) (drop (cell * k) codebook)
 
-  cell_below : get_or assignments s 0 < n
+  cell_below : cell < n
   cell_below = good.cells s below
 
-  pub sample_fits : s * k + k ≤ length samples
-  sample_fits = row_fits s (length assignments) k (s * k) (length samples) below refl good.rows
+  sample_fits : s * k + k ≤ length samples
+  sample_fits = row_fits s (length t.assignments.now) k (s * k) (length samples) below refl good.rows
 
-  pub word_fits : get_or assignments s 0 * k + k ≤ length codebook
+  word_fits : cell * k + k ≤ length codebook
   word_fits = row_fits cell n k (cell * k) (length codebook) cell_below refl good.words
 
-  pub part-size : length (take (s * k + k - s * k) (drop (s * k) samples)) ≡ k
+  part-size : length part ≡ k
   part-size = part_length samples s k (s * k) refl sample_fits
-
-  pub word_size : length (take (get_or assignments s 0 * k + k - get_or assignments s 0 * k) (drop (get_or assignments s 0 * k) codebook)) ≡ k
-  word_size = part_length codebook cell k (cell * k) refl word_fits
 
   work_fit : Fit (places_of n k) n k (length work)
   work_fit = shape n k (length work) good.some (size ∙ good.floats)
 
-  pub gather_fit : (p : Places) → p ≡ places_of n k → Fit p n (length part) (length work)
-  gather_fit p is-p = rw (is-p, part-size) work_fit
+  tallies : length counts ≡ n
+  tallies = cells ∙ good.integers
 
   pub counts_upto : ((i : ℕ) → i < n → get_or counts i 0 ≤ s) → (i : ℕ) → i < n → get_or (set counts cell (get_or counts cell 0 + 1)) i 0 ≤ s + 1
   counts_upto h i l = elim (ℕ_discrete i cell) [
     | yes q ↦
-        let e = ap (λ (z : ℕ). get_or (set counts cell (get_or counts cell 0 + 1)) z 0) q ∙ get_or-set_same counts cell (get_or counts cell 0 + 1) 0 (omega (arith, good.integers, cell_below)) in
+        let e = ap (λ (z : ℕ). get_or (set counts cell (get_or counts cell 0 + 1)) z 0) q ∙ get_or-set_same counts cell (get_or counts cell 0 + 1) 0 (omega (arith, tallies, cell_below)) in
         omega (arith, h cell cell_below)
     | no q ↦ let e = get_or-set_other counts cell i (get_or counts cell 0 + 1) 0 q in omega (arith, h i l)
   ]
 
-  module _ (h : AddedTo n k codebook samples assignments work₀ counts₀ s work counts) (p : Places) (is-p : p ≡ places_of n k) (d : Float) (is-d : d ≡ distance (length part) (vector_of part) (vector_of word)) (after : List Float) (left : List ℕ)
-      (is-after : after ≡ gather_work p (length part) cell part d work) (is-left : left ≡ set counts cell (get_or counts cell 0 + 1)) where
-    joined_is : gather_work p (length part) cell part d work ≡ gather_work (places_of n k) k cell part d work
-    joined_is = rw (is-p, part-size)
-
-    pub after_size : length after ≡ length work₀
-    after_size = ap length (is-after ∙ joined_is) ∙ (gather_kept (places_of n k) n k cell part d work work_fit cell_below).size ∙ size
+  module _ (h : AddedTo t codebook work₀ counts₀ s work counts) (p : Places) (is-p : p ≡ places_of n k) (d : Float) (is-d : d ≡ distance (length part) (vector_of part) (vector_of word))
+      (after : List Float) (left : List ℕ)
+      (is-after : after ≡ gather_work p (length part) cell part d work)
+      (is-left : left ≡ set counts cell (get_or counts cell 0 + 1)) where
+    joined_is : after ≡ gather_work (places_of n k) k cell part d work
+    joined_is = is-after ∙ rw (is-p, part-size)
 
     is_distance : distance k (row_of k samples s) (row_of k codebook cell) ≡ d
     is_distance =
         sym (is-d ∙ ap (λ (z : ℕ). distance z (vector_of part) (vector_of word)) part-size
         ∙ distance_ext k (vector_of part) (vector_of word) (row_of k samples s) (row_of k codebook cell) (part_row samples s k (s * k) refl) (part_row codebook cell k (cell * k) refl))
 
-    module _ (c : Call) (en : c.size ≡ n) (ek : c.dim ≡ k) (eb : c.codebook ≡ codebook) (es : c.samples ≡ samples) (ea : c.assignments ≡ assignments) where
-      joins : after ≡ gather_work (places_of c.size c.dim) c.dim cell part d work
-      joins = is-after ∙ joined_is ∙ rw (en, ek)
+    test_is : (b : Bool) → lt (get_or work (p.farthest + cell) nan) d ≡ b → lt (get_or work ((places_of n k).farthest + cell) nan) d ≡ b
+    test_is b e = ap (λ (z : Places). lt (get_or work (z.farthest + cell) nan) d) (sym is-p) ∙ e
 
-      row_is : (j : ℕ) → j < c.dim → vector_of part j ≡ sample_of c s j
-      row_is j m = rw (ek, es) (part_row samples s k (s * k) refl j (subst (λ (z : ℕ). j < z) ek m))
+    pub added_nearer : lt (get_or work (p.farthest + cell) nan) d ≡ false → AddedTo t codebook work₀ counts₀ (s + 1) after left
+    added_nearer e floats integers slots z =
+        rw (add-one, joined_is, is-left)
+        (nearer (call_of t codebook floats integers slots) s cell part d work counts (h floats integers slots z) work_fit refl cell_below (omega (arith, tallies)) (part_row samples s k (s * k) refl) is_distance (test_is false e))
 
-      dist_is : distance_of c s ≡ d
-      dist_is = rw (ek, es, eb, ea) is_distance
-
-      call_fit : Fit (places_of c.size c.dim) c.size c.dim (length work)
-      call_fit = rw (en, ek) work_fit
-
-      place : c.size * c.dim ≡ n * k
-      place = rw (en, ek)
-
-      same_places : places_of c.size c.dim ≡ p
-      same_places = rw (en, ek, is-p)
-
-      test_is : (b : Bool) → lt (get_or work (p.farthest + cell) nan) d ≡ b → lt (get_or work ((places_of c.size c.dim).farthest + cell) nan) d ≡ b
-      test_is b t = ap (λ (z : Places). lt (get_or work (z.farthest + cell) nan) d) same_places ∙ t
-
-      call_nearer : lt (get_or work (p.farthest + cell) nan) d ≡ false → Added c s work counts → Added c (s + 1) after left
-      call_nearer t g =
-          rw (add-one, joins, is-left)
-          (nearer c s cell part d work counts g call_fit (ap (λ (z : List ℕ). get_or z s 0) ea) (rw en cell_below) (rw (en, cells, good.integers) (omega arith)) row_is dist_is (test_is false t))
-
-      call_farther : lt (get_or work (p.farthest + cell) nan) d ≡ true → Added c s work counts → Added c (s + 1) (set after (n * k + cell) (of_int binary64 (pos s))) left
-      call_farther t g =
-          subst (λ (z : ℕ). Added c (s + 1) (set after (z + cell) (of_int binary64 (pos s))) left) place
-          (rw (add-one, joins, is-left)
-          (farther c s cell part d work counts g call_fit (ap (λ (z : List ℕ). get_or z s 0) ea) (rw en cell_below) (rw (en, cells, good.integers) (omega arith)) row_is dist_is (test_is true t)))
-
-    pub added_nearer : lt (get_or work (p.farthest + cell) nan) d ≡ false → AddedTo n k codebook samples assignments work₀ counts₀ (s + 1) after left
-    added_nearer t c en ek eb es ea z = call_nearer c en ek eb es ea t (h c en ek eb es ea z)
-
-    pub added_farther : (v : Float) → v ≡ of_int binary64 (pos s) → lt (get_or work (p.farthest + cell) nan) d ≡ true → AddedTo n k codebook samples assignments work₀ counts₀ (s + 1) (set after (n * k + cell) v) left
-    added_farther v is-v t c en ek eb es ea z = rw is-v (call_farther c en ek eb es ea t (h c en ek eb es ea z))
+    pub added_farther : (v : Float) → v ≡ of_int binary64 (pos s) → lt (get_or work (p.farthest + cell) nan) d ≡ true
+        → AddedTo t codebook work₀ counts₀ (s + 1) (set after (n * k + cell) v) left
+    added_farther v is-v e floats integers slots z =
+        rw (add-one, is-v, joined_is, is-left)
+        (farther (call_of t codebook floats integers slots) s cell part d work counts (h floats integers slots z) work_fit refl cell_below (omega (arith, tallies)) (part_row samples s k (s * k) refl) is_distance (test_is true e))

@@ -22,7 +22,7 @@ use Rattle.lloyd_update.specs.declared.Step.TheVariants.{Refused}
 use Rattle.lloyd_update.specs.Alone.{Call, terms_of, update_checks, update_of}
 use Rattle.lloyd_update.specs.Progress.{places_of, numbers_of, samples_of, sample_of, cell_of, old_word_of, start_cells, far_of, distance_of, Added, Addable, Under, UpdateProgress}
 use Rattle.lloyd_update.proofs.CheckLaw.{Passed}
-use Rattle.lloyd_update.proofs.AddLaw.{shape, numbers_room, AddedTo}
+use Rattle.lloyd_update.proofs.AddLaw.{shape, numbers_room}
 use Rattle.lloyd_update.proofs.RepairsLaw.{not_completed}
 
 -- ---- nothing is added up yet
@@ -147,20 +147,38 @@ module _ (c : Call) where
 
 -- ---- a call that has passed its checks, from its cleared work to its means
 module _ (c : Call) (passed : Passed c) (work₀ v : List Float) (counts₀ u : List ℕ) (floats : length work₀ ≡ c.float_work) (integers : length counts₀ ≡ c.integer_work)
-    (p : Places) (is-p : p ≡ places_of c.size c.dim) (is-v : v ≡ cleared p c.size work₀) (is-u : u ≡ replicate (length counts₀) 0) where
+    (p : Places) (is-p : p ≡ places_of c.size c.dim) (is-v : v ≡ cleared p (length counts₀) work₀) (is-u : u ≡ replicate (length counts₀) 0) where
+  room : length work₀ ≡ 2 * (c.size * c.dim) + 2 * c.size
+  room = floats ∙ passed.floats
+
+  tallied : length counts₀ ≡ c.size
+  tallied = integers ∙ passed.integers
+
+  is-cleared : v ≡ cleared p c.size work₀
+  is-cleared = is-v ∙ ap (λ (n : ℕ). cleared p n work₀) tallied
+
   pub can_add : Addable c.size c.dim c.codebook c.samples c.assignments v u
-  can_add = addable c work₀ v counts₀ u passed.book.coordinates (floats ∙ passed.floats) (integers ∙ passed.integers) p is-p is-v is-u passed
+  can_add = addable c work₀ v counts₀ u passed.book.coordinates room tallied p is-p is-cleared is-u passed
 
-  module _ (w after : List Float) (i : List ℕ) (size : length w ≡ length v) (tallies : length i ≡ length u)
-      (added : AddedTo c.size c.dim c.codebook c.samples c.assignments v u (length c.assignments) w i) (is-after : after ≡ means_to p c.dim i w c.size) where
-    sums : Added c (length c.assignments) w i
-    sums = added c refl refl refl refl refl (none_added c work₀ v counts₀ u passed.book.coordinates (floats ∙ passed.floats) (integers ∙ passed.integers) p is-p is-v is-u)
+  module _ (w : List Float) (i : List ℕ) (size : length w ≡ length v) (tallies : length i ≡ length u) where
+    all-tallied : length i ≡ c.size
+    all-tallied = tallies ∙ can_add.integers
 
-    pub empties : (empty : ℕ) → empty ≡ count_to (λ j. get_or i j 0) 0 (length i) → empty ≡ empty_cells (start_cells c).tally c.size
-    empties = counted c passed w i sums (size ∙ can_add.floats) (tallies ∙ can_add.integers) p is-p after is-after
+    pub can_divide : Fit p (length i) c.dim (length w)
+    can_divide = rw (is-p, all-tallied) (shape c.size c.dim (length w) passed.book.coordinates (size ∙ can_add.floats))
 
-    pub begun : update_of c ≡ repair_to (terms_of c) (far_of c) (start_cells c) c.size → update_checks c ≡ completed tt → Under c 0 (unrepaired c) after i
-    begun repairs accepted = record { checked = accepted; repairs = repairs; running = ready c passed w i sums (size ∙ can_add.floats) (tallies ∙ can_add.integers) p is-p after is-after }
+    module _ (after : List Float) (added : Added c 0 v u → Added c (length c.assignments) w i) (is-after : after ≡ means_to p c.dim i w (length i)) where
+      sums : Added c (length c.assignments) w i
+      sums = added (none_added c work₀ v counts₀ u passed.book.coordinates room tallied p is-p is-cleared is-u)
+
+      is-means : after ≡ means_to p c.dim i w c.size
+      is-means = is-after ∙ ap (means_to p c.dim i w) all-tallied
+
+      pub empties : (empty : ℕ) → empty ≡ count_to (λ j. get_or i j 0) 0 (length i) → empty ≡ empty_cells (start_cells c).tally c.size
+      empties = counted c passed w i sums (size ∙ can_add.floats) all-tallied p is-p after is-means
+
+      pub begun : update_of c ≡ repair_to (terms_of c) (far_of c) (start_cells c) c.size → update_checks c ≡ completed tt → Under c 0 (unrepaired c) after i
+      begun repairs accepted = record { checked = accepted; repairs = repairs; running = ready c passed w i sums (size ∙ can_add.floats) all-tallied p is-p after is-means }
 
 -- ---- what the update has come to
 -- one that has passed its checks was not refused by them

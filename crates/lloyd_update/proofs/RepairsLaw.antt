@@ -16,7 +16,7 @@ use Rattle.lloyd_repair.specs.Running as running
 use Rattle.lloyd_repair.specs.Running.{Running, Turned}
 use Rattle.lloyd_update.specs.declared.UpdateTerms.{UpdateTerms}
 use Rattle.lloyd_update.specs.Alone.{Call, terms_of, update_checks, update_of, update_alone}
-use Rattle.lloyd_update.specs.Progress.{places_of, numbers_of, start_cells, far_of, Under, Going, Ended, Matches, ReadyUpdate, ReadyAt}
+use Rattle.lloyd_update.specs.Progress.{places_of, numbers_of, start_cells, far_of, Under, Going, Ended, Matches, ReadyAt}
 use Rattle.lloyd_update.proofs.CheckLaw.{checks_passed}
 use Rattle.lloyd_update.proofs.AddLaw.{places_small}
 
@@ -83,7 +83,7 @@ module _ (far : ℕ → ℕ → Float) (start : Cells) (r : Repaired) (work : Li
       (subst (λ (z : Numbers). Turned p z u ys far start r work ints o) em
       (subst (λ (z : Terms). Turned p m z ys far start r work ints o) et (subst (λ (z : List Float). Turned p m t z far start r work ints o) ex h)))
 
-module _ {c : Call} {t : UpdateTerms} {xs : List Float} {slots : ℕ} (same : Matches c t xs slots) where
+module _ {c : Call} {t : UpdateTerms} {slots : ℕ} (same : Matches c t slots) where
   same_places : (p : Places) → p ≡ places_of t.codebook_size t.block_dim → p ≡ places_of c.size c.dim
   same_places p e = e ∙ rw (same.size, same.dim)
 
@@ -95,14 +95,14 @@ module _ {c : Call} {t : UpdateTerms} {xs : List Float} {slots : ℕ} (same : Ma
 
   module _ (p : Places) (is-p : p ≡ places_of t.codebook_size t.block_dim) where
     pub to_turn : {next : ℕ} {r : Repaired} {work : List Float} {ints : List ℕ} → Under c next r work ints
-        → Running p (numbers_of t.codebook_size t.block_dim) (running.terms_of (repair_terms t slots)) xs (far_of c) (start_cells c) next r work ints
+        → Running p (numbers_of t.codebook_size t.block_dim) (running.terms_of (repair_terms t slots)) t.samples.now (far_of c) (start_cells c) next r work ints
     to_turn {next} {r} {work} {ints} h = same_run (far_of c) (start_cells c) r work ints (sym (same_places p is-p)) (sym same_numbers) (sym same_terms) same.samples next h.running
 
-    pub of_turn : (r : Repaired) (work : List Float) (ints : List ℕ) (o : Result (Option Repair) Refusal) → Turned p (numbers_of t.codebook_size t.block_dim) (running.terms_of (repair_terms t slots)) xs (far_of c) (start_cells c) r work ints o
+    pub of_turn : (r : Repaired) (work : List Float) (ints : List ℕ) (o : Result (Option Repair) Refusal) → Turned p (numbers_of t.codebook_size t.block_dim) (running.terms_of (repair_terms t slots)) t.samples.now (far_of c) (start_cells c) r work ints o
         → Turned (places_of c.size c.dim) (numbers_of c.size c.dim) (terms_of c) c.samples (far_of c) (start_cells c) r work ints o
     of_turn r work ints o h = same_turn (far_of c) (start_cells c) r work ints (same_places p is-p) same_numbers same_terms (sym same.samples) o h
 
-module _ {t : UpdateTerms} {xs : List Float} {slots used : ℕ} {work : List Float} {counts : List ℕ} {from : ℕ} (h : ReadyAt t xs slots used work counts from) where
+module _ {t : UpdateTerms} {slots used : ℕ} {work : List Float} {counts : List ℕ} {from : ℕ} (h : ReadyAt t slots used work counts from) where
   pub ready_small : 2 * (t.codebook_size * t.block_dim) + t.codebook_size < 0x1_0000_0000_0000
   ready_small =
       let b = (checks_passed h.call h.under.checked).book in
@@ -113,9 +113,6 @@ module _ {t : UpdateTerms} {xs : List Float} {slots used : ℕ} {work : List Flo
       let r = h.under.running in
       omega (arith, h.used, events_upto (terms_of h.call) (far_of h.call) (start_cells h.call) from h.r r.reached r.came, r.reached, r.small)
 
-  pub turn_ready : (p : Places) → p ≡ places_of t.codebook_size t.block_dim → running.ReadyRepairs p (numbers_of t.codebook_size t.block_dim) (running.terms_of (repair_terms t slots)) xs used from work counts
-  turn_ready p e = record { far = far_of h.call; start = start_cells h.call; r = h.r; events = sym h.used; running = to_turn h.matches p e h.under }
-
 -- ---- what an update has come to after a turn
 module _ {c : Call} {from : ℕ} {r : Repaired} {before : List Float} {earlier : List ℕ} (h : Under c from r before earlier) (work : List Float) (counts : List ℕ) where
   pub goes_on : (x : Repair) → Turned (places_of c.size c.dim) (numbers_of c.size c.dim) (terms_of c) c.samples (far_of c) (start_cells c) r work counts (Ok (Some x)) → Going c r.events work counts x
@@ -125,26 +122,3 @@ module _ {c : Call} {from : ℕ} {r : Repaired} {before : List Float} {earlier :
     last = o.event;
     room = omega (arith, events_within (terms_of c) (far_of c) (start_cells c) x.next o.after o.running.came, ap length o.event, length-append r.events (x.event ∷ []));
   }
-
-  pub all_done : (used : ℕ) → used ≡ length r.events → Turned (places_of c.size c.dim) (numbers_of c.size c.dim) (terms_of c) c.samples (far_of c) (start_cells c) r work counts (Ok None) → Ended c r.events work counts (Ok used)
-  all_done used n o =
-      let is : update_alone c ≡ completed r = ap (λ (q : Outcome Unit). and_then q (λ u. update_of c)) h.checked ∙ h.repairs ∙ o.0 in record {
-        answers = ap completed n ∙ sym (ap event_count is);
-        done = λ x e.
-            subst (λ (y : Repaired). (r.events ≡ y.events) × Under c c.size y work counts) (completed_same r x (sym is ∙ e))
-            (refl, record { checked = h.checked; repairs = h.repairs; running = o.1 });
-        checked = h.checked;
-      }
-
-  pub is_refused : (x : Refusal) → Turned (places_of c.size c.dim) (numbers_of c.size c.dim) (terms_of c) c.samples (far_of c) (start_cells c) r work counts (Err x) → Ended c r.events work counts (Err x)
-  is_refused x o = not_repaired c r.events work counts x h.checked (h.repairs ∙ o)
-
--- ---- the repair after one that was made
-pub ready_at : {t : UpdateTerms} {xs : List Float} {slots used : ℕ} {work : List Float} {counts : List ℕ} (x : Repair) → ReadyUpdate t xs slots used work counts x → ReadyAt t xs slots used work counts x.next
-ready_at x h = record {
-  call = h.call;
-  r = h.going.r;
-  matches = h.matches;
-  under = h.going.under;
-  used = omega (arith, h.used, ap length h.going.last, length-append h.events (x.event ∷ []));
-}

@@ -29,13 +29,13 @@ abbrev pub numbers_of : ℕ → ℕ → Numbers
 numbers_of n k = InFloats (n * k)
 
 -- the call that the arguments make
-abbrev pub call_of : UpdateTerms → List Float → List Float → List ℕ → ℕ → ℕ → ℕ → Call
-call_of t codebook samples assignments floats integers slots = record {
+abbrev pub call_of : UpdateTerms → List Float → ℕ → ℕ → ℕ → Call
+call_of t codebook floats integers slots = record {
   size = t.codebook_size;
   dim = t.block_dim;
   codebook = codebook;
-  samples = samples;
-  assignments = assignments;
+  samples = t.samples.now;
+  assignments = t.assignments.now;
   policy = t.policy;
   restart = t.restart;
   iteration = t.iteration;
@@ -103,29 +103,27 @@ UpdateProgress c events work counts (Made r) = Going c events work counts r
 UpdateProgress c events work counts (Stopped a) = Ended c events work counts a
 
 -- the numbers that a call was made with
-pub record Matches (c : Call) (t : UpdateTerms) (xs : List Float) (most : ℕ) : Type 0 where
+pub record Matches (c : Call) (t : UpdateTerms) (most : ℕ) : Type 0 where
   pub size : c.size ≡ t.codebook_size
   pub dim : c.dim ≡ t.block_dim
   pub restart : c.restart ≡ t.restart
   pub iteration : c.iteration ≡ t.iteration
-  pub samples : c.samples ≡ xs
+  pub samples : c.samples ≡ t.samples.now
   pub slots : c.slots ≡ most
 
 -- some update is going on
-pub record ReadyUpdate (t : UpdateTerms) (samples : List Float) (slots m : ℕ) (work : List Float) (counts : List ℕ)
-    (made : Repair) : Type 0 where
+pub record ReadyUpdate (t : UpdateTerms) (slots m : ℕ) (work : List Float) (counts : List ℕ) (made : Repair) : Type 0 where
   pub call : Call
   pub events : List LloydRepairEvent
-  pub matches : Matches call t samples slots
+  pub matches : Matches call t slots
   pub going : Going call events work counts made
   pub used : m ≡ suc (length events)
 
 -- the same, at the cell whose turn is next
-pub record ReadyAt (t : UpdateTerms) (samples : List Float) (slots m : ℕ) (work : List Float) (counts : List ℕ)
-    (next : ℕ) : Type 0 where
+pub record ReadyAt (t : UpdateTerms) (slots m : ℕ) (work : List Float) (counts : List ℕ) (next : ℕ) : Type 0 where
   pub call : Call
   pub r : Repaired
-  pub matches : Matches call t samples slots
+  pub matches : Matches call t slots
   pub under : Under call next r work counts
   pub used : m ≡ length r.events
 

@@ -1,9 +1,11 @@
 // The update of lloyd.rs, called alone: its checks, its means, its repairs one at a time, and its end.
 // A repair is a value here; the event slots are written in one place
 // above. The public functions are public only for the crates above.
+// Kept: work and counts are parameters beside the terms, since they are written (as in lloyd_steps), and the number
+// of slots too, which a caller of an update never hands in.
 #![tactic(auto)]
 
-ghost use Rattle.std.specs.Prelude.{◌≡◌, ◌+◌, ◌*◌, ◌/◌, ◌<◌, ◌≤◌, true, false, cond, ◌&&◌, List, [], ◌∷◌, ◌++◌, length, take, replicate, pos, if◌then◌else◌, slice_index, is_ok};
+ghost use Rattle.std.specs.Prelude.{◌≡◌, ℕ, ◌+◌, ◌*◌, ◌/◌, ◌<◌, ◌≤◌, true, false, cond, ◌&&◌, List, [], ◌∷◌, ◌++◌, length, take, replicate, pos, if◌then◌else◌, slice_index, is_ok};
 ghost use Rattle.error.specs.Numbers.{outcome};
 ghost use Rattle.ieee.specs.Sum.{plus_zero};
 ghost use Rattle.lloyd_events.specs.declared.LloydRepairEvent.{LloydRepairEvent};
@@ -17,9 +19,11 @@ use lloyd_cells::Places;
 use lloyd_repair::{Numbers, Repair, RepairTerms};
 use profile::EmptyCellPolicy;
 
-// What an update is told beside its slices.
+// What an update is told: the samples with the cell of each, the shape of the codebook, and what its events bear.
 #[derive(Clone, Copy)]
-pub struct UpdateTerms {
+pub struct UpdateTerms<'a> {
+    pub samples: &'a [f64],
+    pub assignments: &'a [u32],
     pub codebook_size: u64,
     pub block_dim: u64,
     pub policy: EmptyCellPolicy,
@@ -28,6 +32,8 @@ pub struct UpdateTerms {
 }
 
 // Where an update stands.
+// Kept: a refusal is a state, early or late, since the first leaves the buffers as they were and the second leaves them
+// for the end.
 #[derive(Clone, Copy)]
 pub enum Step {
     // The checks refused it, and nothing was written.
@@ -42,25 +48,23 @@ pub enum Step {
 const UPDATE_LIMIT: f64 = 281474976710656.0;
 
 // The checks of an update, in their order.
+#[tactic(auto, using(lloyd_search::proofs::ShapeLaw::codebook_shape), unfolding(crate::specs::Alone::update_checks))]
 fn check_update(
     codebook: &[f64],
-    samples: &[f64],
-    assignments: &[u32],
     floats: usize,
     integers: usize,
     slots: usize,
-    t: UpdateTerms,
+    t: UpdateTerms<'_>,
 ) -> Result<(), Refusal>
     ensures { outcome result
-        ≡ update_checks (call_of t codebook.now samples.now
-        assignments.now floats integers slots) }
+        ≡ update_checks (call_of t.entry codebook.now floats integers slots) }
 {
     let n = t.codebook_size;
     let k = t.block_dim;
     if !lloyd_search::codebook_shaped(n, k, codebook.len()) {
         return Err(Refusal::SliceLength(Slice::Initial));
     }
-    if !lloyd_search::samples_shaped(k, samples.len()) {
+    if !lloyd_search::samples_shaped(k, t.samples.len()) {
         return Err(Refusal::SliceLength(Slice::Samples));
     }
     if floats as u64 != 2 * (n * k) + 2 * n {
@@ -72,36 +76,24 @@ fn check_update(
     if lloyd_events::MAX_EVENT_SLOTS < slots {
         return Err(Refusal::SliceLength(Slice::Events));
     }
-    if assignments.len() as u64 != samples.len() as u64 / k {
+    if t.assignments.len() as u64 != t.samples.len() as u64 / k {
         return Err(Refusal::SliceLength(Slice::Assignments));
     }
-    check_values(codebook, samples, assignments, n)
+    check_values(codebook, t)
 }
 
 // The values of codebook and samples, then the assignments.
-fn check_values(
-    codebook: &[f64],
-    samples: &[f64],
-    assignments: &[u32],
-    n: u64,
-) -> Result<(), Refusal>
-    requires { n < 4294967296 }
+#[tactic(auto, unfolding(crate::specs::Alone::value_checks))]
+fn check_values(codebook: &[f64], t: UpdateTerms<'_>) -> Result<(), Refusal>
+    requires { t.codebook_size < 4294967296 }
     ensures { outcome result
-        ≡ value_checks n codebook.now samples.now assignments.now }
+        ≡ value_checks t.entry.codebook_size codebook.now t.entry.samples.now
+        t.entry.assignments.now }
 {
-    if let Some(place) = slices::first_outside(codebook, UPDATE_LIMIT) {
-        return Err(Refusal::OutOfBounds {
-            slice: Slice::Initial,
-            place: place as u64,
-        });
-    }
-    if let Some(place) = slices::first_outside(samples, UPDATE_LIMIT) {
-        return Err(Refusal::OutOfBounds {
-            slice: Slice::Samples,
-            place: place as u64,
-        });
-    }
-    for cell in assignments {
+    slices::check_within(codebook, UPDATE_LIMIT, Slice::Initial)?;
+    slices::check_within(t.samples, UPDATE_LIMIT, Slice::Samples)?;
+    let n = t.codebook_size;
+    for cell in t.assignments {
         if n <= *cell as u64 {
             return Err(Refusal::IndexOutOfRange {
                 index: *cell,
@@ -121,30 +113,24 @@ fn places(n: usize, k: usize) -> Places
 }
 
 // Every sample is added to its cell, and the number of each cell's farthest sample noted.
-fn add_samples(
-    codebook: &[f64],
-    samples: &[f64],
-    assignments: &[u32],
-    work: &mut [f64],
-    counts: &mut [u32],
-    n: usize,
-    k: usize,
-)
-    requires { Addable n k codebook.now samples.now assignments.now work.old counts.old }
-    ensures added { (c : Call) → c.size ≡ n → c.dim ≡ k → c.codebook ≡ codebook.now
-        → c.samples ≡ samples.now → c.assignments ≡ assignments.now
-        → Added c 0 work.old counts.old
-        → Added c (length assignments.now) work.new counts.new }
+fn add_samples(codebook: &[f64], work: &mut [f64], counts: &mut [u32], t: UpdateTerms<'_>)
+    requires { Addable t.codebook_size t.block_dim codebook.now t.samples.now t.assignments.now
+        work.old counts.old }
+    ensures { (floats integers slots : ℕ) →
+        let c = call_of t.entry codebook.now floats integers slots in
+        Added c 0 work.old counts.old → Added c (length c.assignments) work.new counts.new }
 {
+    let n = t.codebook_size as usize;
+    let k = t.block_dim as usize;
     let p = places(n, k);
     let numbers = n * k;
-    for (s, cell) in assignments.iter().enumerate() {
+    for (s, cell) in t.assignments.iter().enumerate() {
         let cell = *cell as usize;
         let at = s * k;
         let from = cell * k;
-        let sample = &samples[at..at + k];
+        let sample = &t.samples[at..at + k];
         let d = lloyd_search::squared_distance(sample, &codebook[from..from + k]);
-        if lloyd_cells::gather(&mut *work, &mut *counts, p, cell, n, sample, d) {
+        if lloyd_cells::gather(&mut *work, &mut *counts, p, cell, sample, d) {
             let number = numbers + cell;
             work[number] = std::num::nearest_u64_to_f64(s as u64);
         }
@@ -162,34 +148,32 @@ pub fn count_empty(counts: &[u32]) -> usize
 // The next repair after one that was made, whose event is the last of `used` events. What stands in work and counts
 // is for the next steps; where it is refused it is left for the end to zero.
 pub fn next_repair(
-    samples: &[f64],
     work: &mut [f64],
     counts: &mut [u32],
     slots: usize,
     used: usize,
-    t: UpdateTerms,
+    t: UpdateTerms<'_>,
     made: Repair,
 ) -> Step
-    requires { ReadyUpdate t samples.now slots used work.old counts.old made }
-    ensures { (c : Call) (events : List LloydRepairEvent) → Matches c t samples.now slots
+    requires { ReadyUpdate t slots used work.old counts.old made }
+    ensures { (c : Call) (events : List LloydRepairEvent) → Matches c t.entry slots
         → used ≡ length (events ++ (made.event ∷ [])) → Going c events work.old counts.old made
         → UpdateProgress c (events ++ (made.event ∷ [])) work.new counts.new result }
 {
-    repair_on(samples, work, counts, slots, used, t, made.next)
+    repair_on(work, counts, slots, used, t, made.next)
 }
 
 // The repairs from a cell on, up to the next one that is made.
 fn repair_on(
-    samples: &[f64],
     work: &mut [f64],
     counts: &mut [u32],
     slots: usize,
     used: usize,
-    t: UpdateTerms,
+    t: UpdateTerms<'_>,
     from: usize,
 ) -> Step
-    requires { ReadyAt t samples.now slots used work.old counts.old from }
-    ensures { (c : Call) (r : Repaired) → Matches c t samples.now slots → used ≡ length r.events
+    requires { ReadyAt t slots used work.old counts.old from }
+    ensures { (c : Call) (r : Repaired) → Matches c t.entry slots → used ≡ length r.events
         → Under c from r work.old counts.old
         → UpdateProgress c r.events work.new counts.new result }
 {
@@ -207,7 +191,7 @@ fn repair_on(
     match lloyd_repair::repair_next(
         work,
         counts,
-        samples,
+        t.samples,
         places(n, k),
         numbers,
         terms,
@@ -224,44 +208,26 @@ fn repair_on(
 // where it is refused it is left for the end to zero.
 pub fn begin_update(
     codebook: &[f64],
-    samples: &[f64],
-    assignments: &[u32],
     work: &mut [f64],
     counts: &mut [u32],
     slots: usize,
-    t: UpdateTerms,
+    t: UpdateTerms<'_>,
 ) -> Step
     ensures progress { UpdateProgress
-        (call_of t codebook.now samples.now assignments.now (length work.old)
-        (length counts.old) slots) [] work.new counts.new result }
+        (call_of t.entry codebook.now (length work.old) (length counts.old) slots)
+        [] work.new counts.new result }
     ensures early { (x : Refusal) → result ≡ Step.Refused x → (work.new ≡ work.old)
         × (counts.new ≡ counts.old) }
 {
-    if let Err(r) = check_update(
-        codebook,
-        samples,
-        assignments,
-        work.len(),
-        counts.len(),
-        slots,
-        t,
-    ) {
+    if let Err(r) = check_update(codebook, work.len(), counts.len(), slots, t) {
         return Step::Refused(r);
     }
     let n = t.codebook_size as usize;
     let k = t.block_dim as usize;
     let p = places(n, k);
-    lloyd_cells::clear(&mut *work, &mut *counts, p, n);
-    add_samples(
-        codebook,
-        samples,
-        assignments,
-        &mut *work,
-        &mut *counts,
-        n,
-        k,
-    );
-    lloyd_cells::means(&mut *work, &*counts, p, n, k);
+    lloyd_cells::clear(&mut *work, &mut *counts, p);
+    add_samples(codebook, &mut *work, &mut *counts, t);
+    lloyd_cells::means(&mut *work, &*counts, p, k);
     let empty = count_empty(&*counts);
     let policy = t.policy;
     if let EmptyCellPolicy::FailClosed = policy {
@@ -269,7 +235,7 @@ pub fn begin_update(
             return Step::Stopped(Err(Refusal::EmptyCells(empty as u64)));
         }
     }
-    repair_on(samples, work, counts, slots, 0, t, 0)
+    repair_on(work, counts, slots, 0, t, 0)
 }
 
 // The end of an update that passed its checks: it writes the codebook where it is accepted, and zeroes the work.

@@ -11,8 +11,7 @@ use mathlib.Core.List.{List}
 use lib.ListN.{length, get_or, take, replicate}
 use lib.Seq.{length-take-le, get_or-take}
 use lib.Ieee.{Float, nan}
-use Rattle.error.specs.Numbers.{Value, Outcome, completed, refused, refusal, and_then, leaves, outcome}
-use Rattle.error.proofs.Refusals.{by_refusal}
+use Rattle.error.specs.Numbers.{Value, Outcome, completed, refused, and_then, leaves, outcome}
 use Rattle.error.specs.declared.Refusal.{Refusal}
 use Rattle.slices.specs.Lists.{tabulate, words_of}
 use Rattle.slices.proofs.TabulateLaw.{tabulate_is}
@@ -21,7 +20,7 @@ use Rattle.lloyd_events.specs.Events.{zero_event}
 use Rattle.lloyd_events.proofs.Log.{logged}
 use Rattle.lloyd_cells.specs.Repair.{Repaired}
 use Rattle.lloyd_cells.proofs.TallyLaw.{tallied, tallied_some}
-use Rattle.lloyd_update.specs.Alone.{Call, terms_of, update_checks, update_of, update_alone, codebook_after, work_after, slots_after}
+use Rattle.lloyd_update.specs.Alone.{Call, terms_of, update_of, update_alone, codebook_after, work_after, slots_after}
 use Rattle.lloyd_update.specs.Progress.{start_cells, far_of, Under, Ended}
 use Rattle.lloyd_update.proofs.CheckLaw.{checks_passed}
 use Rattle.lloyd_update.proofs.RepairsLaw.{event_count, not_completed}
@@ -60,18 +59,6 @@ words_held c r work counts h =
     ∙ ap (λ (z : ℕ). get_or work z nan) (sym (zero-add (i / k * k + i % k) ∙ div-add-mod' i k))
     ∙ u.held.words (i / k) (i % k) q (mod-lt i some) (full (i / k) q))
     ∙ ap (λ (z : ℕ). tabulate z (λ i. r.cells.word (i / k) (i % k))) size
-
--- ---- refused by a check, an update leaves every buffer as it was
-module _ (c : Call) (x : Refusal) (k : update_checks c ≡ refusal x) where
-  pub refused_alone : outcome {A = ℕ} (Err x) ≡ and_then (update_alone c) (λ r. completed (length r.events))
-  refused_alone =
-      rw k
-      (by_refusal {A = Unit} {B = ℕ} (λ o p. p ≡ and_then (and_then o (λ u. update_of c)) (λ r. completed (length r.events))) (λ n vs. refl) x)
-
-  pub left : {A : Type 0} (before begun : A) (done : Repaired → A) → before ≡ leaves (update_checks c) (update_of c) before done begun
-  left {A} before begun done =
-      rw k
-      (by_refusal {A = Unit} {B = Unit} (λ o p. before ≡ leaves o (update_of c) before done begun) (λ n vs. refl) x)
 
 -- ---- once it has begun
 module _ (c : Call) (events : List LloydRepairEvent) (work : List Float) (counts : List ℕ) (a : Result ℕ Refusal) (e : Ended c events work counts a) where

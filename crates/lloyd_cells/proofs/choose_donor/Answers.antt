@@ -7,7 +7,7 @@ use borrow.Author.Tests.{lt-ltb, le-ltb, not-true, not-false}
 use Rattle.lloyd_cells.specs.Repair.{donor_to, or_larger}
 use Rattle.lloyd_cells.proofs.choose_donor.Invariants.{with_distortion}
 use Rattle.lloyd_cells.proofs.choose_donor.Goals as goal
-use Rattle.lloyd_cells.proofs.choose_donor.Goals.{then-counts-c-gt1+then-takes_over, else-counts-c-gt1, else-counts-c-gt1-via-then-counts-c-gt1+else-takes_over, else-counts-c-gt1-via-else-counts-c-gt1}
+use Rattle.lloyd_cells.proofs.choose_donor.Goals.{then-count-gt1+then-takes_over, else-count-gt1, else-count-gt1-via-then-count-gt1+else-takes_over, else-count-gt1-via-else-count-gt1}
 
 -- whether the distortion x takes the place of the best one
 abbrev Takes : Bool → Float → Option (ℕ × Float) → Type 0
@@ -30,14 +30,14 @@ loop-c-preserved c =
     let d : ℕ → Float = λ i. get_or a.work.now (a.distortions + i) nan in
     let i = c.loop-c.c in
     let f = donor_to t d i in
-    elim c.if-counts-c-gt1.branch [
-      | then-counts-c-gt1+then-takes_over w ↦
+    elim c.if-count-gt1.branch [
+      | then-count-gt1+then-takes_over w ↦
           let h : Takes w.takes_over.result (d i) c.loop-c.best = w.takes_over.ensures in
-          w.best-is ∙ rw (add-one i, lt-ltb 1 (t i) w.if-counts-c-gt1.true) (taken d i f w.takes_over.result (rw c.loop-c.invariant at h) w.if-takes_over.true)
-      | else-counts-c-gt1 w ↦ elim w.else-counts-c-gt1.branch [
-        | else-counts-c-gt1-via-then-counts-c-gt1+else-takes_over v ↦
+          w.best-is ∙ rw (add-one i, lt-ltb 1 (t i) w.if-count-gt1.true) (taken d i f w.takes_over.result (rw c.loop-c.invariant at h) w.if-takes_over.true)
+      | else-count-gt1 w ↦ elim w.else-count-gt1.branch [
+        | else-count-gt1-via-then-count-gt1+else-takes_over v ↦
             let h : Takes v.takes_over.result (d i) c.loop-c.best = v.takes_over.ensures in
-            w.best-is ∙ c.loop-c.invariant ∙ rw (add-one i, lt-ltb 1 (t i) v.if-counts-c-gt1.true) (left d i f v.takes_over.result (rw c.loop-c.invariant at h) v.if-takes_over.false)
-        | else-counts-c-gt1-via-else-counts-c-gt1 v ↦ w.best-is ∙ c.loop-c.invariant ∙ rw (add-one i, le-ltb 1 (t i) v.if-counts-c-gt1.false) refl
+            w.best-is ∙ c.loop-c.invariant ∙ rw (add-one i, lt-ltb 1 (t i) v.if-count-gt1.true) (left d i f v.takes_over.result (rw c.loop-c.invariant at h) v.if-takes_over.false)
+        | else-count-gt1-via-else-count-gt1 v ↦ w.best-is ∙ c.loop-c.invariant ∙ rw (add-one i, le-ltb 1 (t i) v.if-count-gt1.false) refl
       ]
     ]

@@ -16,5 +16,5 @@ returns-clause-work c =
     let zeros : put_mid p.words (p.farthest - p.words) a.work.now c.fill.new.self ≡ patched a.work.now p.words (p.farthest - p.words) (λ i. plus_zero) =
     part_filled a.work.now c.fill.new.self p.words (p.farthest - p.words) (p.farthest - p.words) plus_zero refl (omega arith) (c.fill.ensures.after (λ y h. h)) in
     let size : length (put_mid p.words (p.farthest - p.words) a.work.now c.fill.new.self) ≡ length a.work.now = ap length zeros ∙ length-patched a.work.now p.words (p.farthest - p.words) (λ i. plus_zero) in
-    part_filled (put_mid p.words (p.farthest - p.words) a.work.now c.fill.new.self) c.fill-2.new.self p.farthest (p.farthest + a.n - p.farthest) a.n (fin true 1 (pos 0)) (omega arith) (omega (arith, size)) (c.fill-2.ensures.after (λ y h. h))
-    ∙ ap (λ (z : List Float). patched z p.farthest a.n (λ i. fin true 1 (pos 0))) zeros
+    part_filled (put_mid p.words (p.farthest - p.words) a.work.now c.fill.new.self) c.fill-2.new.self p.farthest (p.farthest + length a.counts.now - p.farthest) (length a.counts.now) (fin true 1 (pos 0)) (omega arith) (omega (arith, size)) (c.fill-2.ensures.after (λ y h. h))
+    ∙ ap (λ (z : List Float). patched z p.farthest (length a.counts.now) (λ i. fin true 1 (pos 0))) zeros

@@ -1,13 +1,12 @@
 -- `lloyd_repair::repair_from` meets its contract: what it reads
 -- of the donor is what the repairs so far left. Assumes nothing.
-use Rattle.std.proofs.Common.{◌≡◌, ℕ, ◌+◌, ◌-◌, ◌*◌, ◌≤◌, List, length, take, drop, sym, refl, ◌∙◌, arith}
-use lib.Ieee.{Float, of_bits}
+use Rattle.std.proofs.Common.{ℕ, ◌*◌, List, ◌++◌, drop, sym, ap, refl, ◌∙◌, arith}
+use lib.Ieee.{of_bits}
+use lib.Seq.{length-take-le}
 use Rattle.lloyd_search.proofs.Parts.{part_length}
-use Rattle.lloyd_cells.specs.Repair.{Cells, Repaired, residual_norm}
-use Rattle.lloyd_cells.proofs.WorkLaw.{kept_refl}
-use Rattle.lloyd_repair.specs.Running.{terms_of, Running}
+use Rattle.lloyd_repair.specs.Running.{terms_of}
 use Rattle.lloyd_repair.proofs.DonorFacts.{below, two, apart, numbered, word_ends, sample_fits, part_far, norm_is}
-use Rattle.lloyd_repair.proofs.RepairLaw.{behind_refl, all_undirected, all_used, work_kept, counts_kept, one_more}
+use Rattle.lloyd_repair.proofs.RepairLaw.{all_undirected, all_used, work_kept, one_more, front_count, front_split, front_event}
 use Rattle.lloyd_repair.proofs.repair_from.Goals as goal
 
 pub number_of-number-requires : goal.number_of-number-requires
@@ -39,103 +38,53 @@ residual_norm-norm-requires c =
     let w = word_ends c.requires.ready.running c.requires.chosen in
     omega arith
 
-pub returns-then-norm : goal.returns-then-norm
+pub returns-then-norm-clause-turned : goal.returns-then-norm-clause-turned
 unfolding of_bits
-returns-then-norm c =
-    let first : ℕ =
-    c.number_of-number.result * c.args.t.dim in
-    let Runs : (ℕ → ℕ → Float) → Cells → Repaired → Type 0 =
-    λ far start r. Running c.args.p c.args.m (terms_of c.args.t) c.args.samples.now far start c.args.e r c.args.work.now c.args.ints.now in
-    let norm-here : (far : ℕ → ℕ → Float) (start : Cells) (r : Repaired) → Runs far start r
-    → let a = c.args in residual_norm a.t.dim (far a.donor) (r.cells.word a.donor) ≡ c.residual_norm-norm.result =
-    λ far start r run. let b = c in
-    let s = b in
-    norm_is run s.requires.chosen b.number_of-number.result b.number_of-number.ensures (first) refl ∙ sym c.residual_norm-norm.ensures in
-    let n = c in
-    let s = n in
-    let a = s.args in record {
-      turned = λ far start r len run.
-          all_undirected run s.requires.chosen n.residual_norm-norm.result (norm-here far start r run) c.if-norm.true;
-      kept = kept_refl a.p a.t.cells a.t.dim a.work.now;
-      ints = behind_refl a.t.cells a.ints.now;
-    }
+returns-then-norm-clause-turned c = λ far start r len run.
+    let q = c.number_of-number in
+    let n = c.residual_norm-norm in
+    all_undirected run c.requires.chosen n.result (norm_is run c.requires.chosen q.result q.ensures _ refl ∙ sym n.ensures) c.if-norm.true
 
-pub returns-then-free-used : goal.returns-then-free-used
+pub returns-then-free-used-clause-turned : goal.returns-then-free-used-clause-turned
 unfolding of_bits
-returns-then-free-used c =
-    let first : ℕ =
-    c.number_of-number.result * c.args.t.dim in
-    let Runs : (ℕ → ℕ → Float) → Cells → Repaired → Type 0 =
-    λ far start r. Running c.args.p c.args.m (terms_of c.args.t) c.args.samples.now far start c.args.e r c.args.work.now c.args.ints.now in
-    let norm-here : (far : ℕ → ℕ → Float) (start : Cells) (r : Repaired) → Runs far start r
-    → let a = c.args in residual_norm a.t.dim (far a.donor) (r.cells.word a.donor) ≡ c.residual_norm-norm.result =
-    λ far start r run. let b = c in
-    let s = b in
-    norm_is run s.requires.chosen b.number_of-number.result b.number_of-number.ensures (first) refl ∙ sym c.residual_norm-norm.ensures in
-    let i = c in
-    let n = i in
-    let s = n in
-    let a = s.args in record {
-      turned = λ far start r len run.
-          all_used run s.requires.chosen n.residual_norm-norm.result (norm-here far start r run) i.if-norm.false (omega (arith, len, c.if-free-used.true));
-      kept = kept_refl a.p a.t.cells a.t.dim a.work.now;
-      ints = behind_refl a.t.cells a.ints.now;
-    }
+returns-then-free-used-clause-turned c = λ far start r len run.
+    let q = c.number_of-number in
+    let n = c.residual_norm-norm in
+    all_used run c.requires.chosen n.result (norm_is run c.requires.chosen q.result q.ensures _ refl ∙ sym n.ensures) c.if-norm.false (omega (arith, len, c.if-free-used.true))
 
 pub fill-event-requires : goal.fill-event-requires
 fill-event-requires c =
-    let first : ℕ =
-    c.number_of-number.result * c.args.t.dim in
-    let sample : first + c.args.t.dim ≤ length c.args.samples.now =
-    let s = c in sample_fits s.requires.ready.running s.requires.chosen c.number_of-number.result c.number_of-number.ensures in
-    let part : List Float =
-    take (first + c.args.t.dim - first) (drop (first) c.args.samples.now) in
-    let part-size : length (part) ≡ c.args.t.dim =
-    part_length c.args.samples.now c.number_of-number.result c.args.t.dim (first) refl (sample) in
-    let n = c in
-    let b = n in
-    let s = b in
-    let q = s.requires.ready in
-    let plenty = two q.running s.requires.chosen in (
-      below q.running s.requires.chosen,
-      s.requires.chosen.below,
-      apart q.running s.requires.chosen,
-      q.running.counts,
-      omega (arith, plenty),
-      rw (part-size) q.running.fit,
-      q.running.small,
-    )
+    let a = c.args in
+    let q = c.number_of-number in
+    let run = c.requires.ready.running in
+    let chosen = c.requires.chosen in
+    let within = below run chosen in
+    let plenty = two run chosen in
+    let part-size = part_length a.samples.now q.result a.t.dim (q.result * a.t.dim) refl (sample_fits run chosen q.result q.ensures) in
+    rw (length-take-le a.t.cells a.ints.now run.counts, front_count a.t.cells a.donor a.e a.ints.now within, part-size)
+    (within, chosen.below, apart run chosen, omega (arith, plenty), run.fit, run.small)
 
-pub returns : goal.returns
+pub returns-clause-turned : goal.returns-clause-turned
 unfolding of_bits
-returns c =
-    let first : ℕ =
-    c.number_of-number.result * c.args.t.dim in
-    let part : List Float =
-    take (first + c.args.t.dim - first) (drop (first) c.args.samples.now) in
-    let sample : first + c.args.t.dim ≤ length c.args.samples.now =
-    let s = c in sample_fits s.requires.ready.running s.requires.chosen c.number_of-number.result c.number_of-number.ensures in
-    let part-size : length (part) ≡ c.args.t.dim =
-    part_length c.args.samples.now c.number_of-number.result c.args.t.dim (first) refl (sample) in
-    let Runs : (ℕ → ℕ → Float) → Cells → Repaired → Type 0 =
-    λ far start r. Running c.args.p c.args.m (terms_of c.args.t) c.args.samples.now far start c.args.e r c.args.work.now c.args.ints.now in
-    let norm-here : (far : ℕ → ℕ → Float) (start : Cells) (r : Repaired) → Runs far start r
-    → let a = c.args in residual_norm a.t.dim (far a.donor) (r.cells.word a.donor) ≡ c.residual_norm-norm.result =
-    λ far start r run. let b = c in
-    let s = b in
-    norm_is run s.requires.chosen b.number_of-number.result b.number_of-number.ensures (first) refl ∙ sym c.residual_norm-norm.ensures in
-    let f = c in
-    let i2 = f in
-    let i1 = i2 in
-    let n = i1 in
-    let b = n in
-    let s = b in
-    let q = s.requires.ready in
-    let norm = n.residual_norm-norm.result in record {
-      turned = λ far start r len run.
-          one_more run s.requires.chosen (part) norm (part-size) f.fill-event.ensures.work f.fill-event.ensures.counts
-          (part_far run s.requires.chosen b.number_of-number.result b.number_of-number.ensures (first) refl)
-          (norm-here far start r run) i1.if-norm.false (omega (arith, len, i2.if-free-used.false)) f.fill-event.result f.fill-event.ensures.event;
-      kept = work_kept q.running s.requires.chosen (part) norm (part-size) f.fill-event.ensures.work f.fill-event.ensures.counts;
-      ints = counts_kept q.running s.requires.chosen (part) norm (part-size) f.fill-event.ensures.work f.fill-event.ensures.counts;
-    }
+returns-clause-turned c = λ far start r len run.
+    let a = c.args in
+    let q = c.number_of-number in
+    let n = c.residual_norm-norm in
+    let f = c.fill-event in
+    let chosen = c.requires.chosen in
+    let within = below run chosen in
+    let part-size = part_length a.samples.now q.result a.t.dim (q.result * a.t.dim) refl (sample_fits run chosen q.result q.ensures) in
+    one_more run chosen _ n.result part-size f.ensures.work
+    (ap (λ (z : List ℕ). z ++ drop a.t.cells a.ints.now) f.ensures.counts ∙ front_split a.t.cells a.donor a.e a.ints.now within chosen.below)
+    (part_far run chosen q.result q.ensures _ refl)
+    (norm_is run chosen q.result q.ensures _ refl ∙ sym n.ensures) c.if-norm.false (omega (arith, len, c.if-free-used.false)) f.result
+    (f.ensures.event ∙ front_event a.t.cells a.donor a.e a.ints.now within (terms_of a.t) a.p a.t.dim a.work.now n.result)
+
+pub returns-clause-kept : goal.returns-clause-kept
+returns-clause-kept c =
+    let a = c.args in
+    let q = c.number_of-number in
+    let run = c.requires.ready.running in
+    let chosen = c.requires.chosen in
+    let part-size = part_length a.samples.now q.result a.t.dim (q.result * a.t.dim) refl (sample_fits run chosen q.result q.ensures) in
+    work_kept run chosen _ c.residual_norm-norm.result part-size c.fill-event.ensures.work refl

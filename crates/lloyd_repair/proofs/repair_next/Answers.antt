@@ -1,27 +1,25 @@
 -- `lloyd_repair::repair_next` meets its contract: the cells passed over are not empty. Assumes nothing.
-use Rattle.std.proofs.Common.{◌≡◌, ℕ, ◌∙◌, List, sym, ap, arith, Option, None, Some, Result, Ok, Err}
+use Rattle.std.proofs.Common.{◌≡◌, ℕ, ◌+◌, ◌<◌, ◌∙◌, List, get_or, sym, ap, arith, Option, None, Some, Result, Ok, Err}
 use Rattle.std.specs.Option.{ok_or}
 use Rattle.std.specs.Result.{IsErrAnd, result_ok}
-use lib.Ieee.{Float}
+use lib.Ieee.{Float, nan}
+use lib.Seq.{get_or-take, length-take-le}
 use Rattle.error.specs.Numbers.{refusal}
 use Rattle.error.specs.declared.Refusal.{Refusal}
 use Rattle.lloyd_cells.specs.declared.Places.{Places}
 use Rattle.lloyd_cells.specs.Repair.{Cells, Terms, Repaired, repair_to}
-use Rattle.lloyd_cells.proofs.WorkLaw.{kept_refl}
 use Rattle.lloyd_repair.specs.declared.Numbers.{Numbers}
 use Rattle.lloyd_repair.specs.declared.Repair.{Repair}
 use Rattle.lloyd_repair.specs.Running.{terms_of, Turned}
-use Rattle.lloyd_repair.proofs.RepairLaw.{behind_refl, passed, none_gives}
+use Rattle.lloyd_repair.proofs.RepairLaw.{front_donor, passed, none_gives}
 use Rattle.lloyd_repair.proofs.repair_next.Goals as goal
 
-pub returns-in_default : goal.returns-in_default
-returns-in_default c =
+pub returns-in_default-clause-turned : goal.returns-in_default-clause-turned
+returns-in_default-clause-turned c = λ far start r len run.
     let a = c.args in
-    let h = rw c.in_default.is at c.next_empty.ensures in record {
-      turned = λ far start r len run. let all = passed run a.t.cells run.reached (omega arith) h in (all.came, all);
-      kept = kept_refl a.p a.t.cells a.t.dim a.work.now;
-      ints = behind_refl a.t.cells a.ints.now;
-    }
+    let h = rw (c.in_default.is, length-take-le a.t.cells a.ints.now run.counts) at c.next_empty.ensures in
+    let all = passed run a.t.cells run.reached (omega arith) h in
+    (all.came, all)
 
 -- what is handed on is the refusal that the repairs come to
 refused : (p : Places) (m : Numbers) (t : Terms) (samples : List Float) (far : ℕ → ℕ → Float) (start : Cells) (r : Repaired) (work : List Float) (ints : List ℕ)
@@ -38,20 +36,30 @@ pub returns-in_err-donor-clause-turned : goal.returns-in_err-donor-clause-turned
 returns-in_err-donor-clause-turned c = λ far start r len run.
     let a = c.args in
     let h = c.in-Some.ensures in
+    let size = length-take-le a.t.cells a.ints.now run.counts in
     let none = c.ok_or.ensures.ok_part ∙ ap result_ok c.in_err-donor.was in
-    let names = no_donor c.choose_donor.result _ _ none (sym c.ok_or.ensures.value ∙ c.in_err-donor.was) in
+    let names = no_donor c.choose_donor-found.result _ _ none (sym c.ok_or.ensures.value ∙ c.in_err-donor.was) in
     refused a.p a.m (terms_of a.t) a.samples.now far start r a.work.now a.ints.now _ _ c.from_residual.ensures.1
-    (none_gives run c.in-Some.e h.0 (omega arith) h.2 h.1 h.3 (sym c.choose_donor.ensures ∙ none) ∙ ap refusal names)
+    (none_gives run c.in-Some.e h.0 (omega arith) h.2 (omega arith) h.3 (sym c.choose_donor-found.ensures ∙ none) ∙ ap refusal names)
 
 pub repair_from-requires : goal.repair_from-requires
 repair_from-requires c =
+    let a = c.args in
     let h = c.in-Some.ensures in
-    let s = c.requires in record {
+    let s = c.requires in
+    let size = length-take-le a.t.cells a.ints.now s.running.counts in
+    let below : c.in-Some.e < a.t.cells = omega arith in
+    record {
       ready = record { far = s.far; start = s.start; r = s.r; events = s.events; running = passed s.running c.in-Some.e h.0 (omega arith) h.2 };
-      chosen = record { below = h.1; empty = h.3; shows = sym c.choose_donor.ensures ∙ c.ok_or.ensures.ok_part ∙ ap result_ok c.in_ok-donor.was };
+      chosen = record {
+        below = below;
+        empty = sym (get_or-take a.t.cells a.ints.now c.in-Some.e 0 below) ∙ h.3;
+        shows = sym (front_donor a.t.cells a.ints.now (λ i. get_or a.work.now (a.p.distortions + i) nan) s.running.counts) ∙ sym c.choose_donor-found.ensures ∙ c.ok_or.ensures.ok_part ∙ ap result_ok c.in_ok-donor.was;
+      };
     }
 
-pub returns : goal.returns
-returns c =
+pub returns-clause-turned : goal.returns-clause-turned
+returns-clause-turned c = λ far start r len run.
     let h = c.in-Some.ensures in
-    record { turned = λ far start r len run. c.repair_from.ensures.turned far start r len (passed run c.in-Some.e h.0 (omega arith) h.2); kept = c.repair_from.ensures.kept; ints = c.repair_from.ensures.ints }
+    let size = length-take-le c.args.t.cells c.args.ints.now run.counts in
+    c.repair_from.ensures.turned far start r len (passed run c.in-Some.e h.0 (omega arith) h.2)

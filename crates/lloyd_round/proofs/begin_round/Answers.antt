@@ -1,51 +1,45 @@
 -- `lloyd_round::begin_round` meets its contract: cleared work, the samples added up, and the means. Assumes nothing.
-use mathlib.Core.Path.{◌≡◌, sym, ◌∙◌, subst}
-use native.Mathlib.Omega.{arith}
-use mathlib.Core.List.{List}
-use lib.ListN.{length}
-use lib.Ieee.{Float}
-use Rattle.lloyd_cells.specs.declared.Places.{Places}
-use Rattle.lloyd_cells.specs.Work.{Fit}
-use Rattle.lloyd_round.specs.Round.{Holding, AtFirst}
+use Rattle.std.proofs.Common.{◌≡◌, length, length-append, arith, sym, ◌∙◌}
 use Rattle.lloyd_round.specs.Adding.{front}
-use Rattle.lloyd_round.proofs.AddLaw.{shape}
 use Rattle.lloyd_round.proofs.BeginLaw.{same_room, untouched, cleared_front, none_added, means_left, at_first, held_front}
 use Rattle.lloyd_round.proofs.begin_round.Goals as goal
 
-pub add_samples-requires : goal.add_samples-requires
-add_samples-requires c =
+pub add_samples-requires-clause-none : goal.add_samples-requires-clause-none
+add_samples-requires-clause-none c =
     let a = c.args in
-    let w = c.clear.new.work in
-    let i = c.clear.new.counts in record {
-      roomy = same_room a.n a.k a.count a.samples.now a.work.now w a.ints.now i c.requires c.clear.auto.work c.clear.auto.counts;
-      none = none_added c.requires c.places-p.result c.places-p.ensures w i c.clear.ensures.work c.clear.ensures.counts (front a.n a.k w);
-    }
-
-pub means-requires : goal.means-requires
-means-requires c =
-    let a = c.args in
-    let r = c.requires in
-    let L = length c.add_samples.new.work in
-    (omega (arith, r.integers), subst (λ (q : Places). Fit q a.n a.k L) (sym c.places-p.ensures) (shape a.n a.k L r.some (c.add_samples.auto.work ∙ c.clear.auto.work ∙ r.floats)))
+    let s = c.split_at_mut-counts in
+    let n-is = s.ensures.front_len in
+    let places : length s.result.1.now ≡ a.n = omega (arith, c.requires.integers) in
+    let tallies = c.clear.auto.counts ∙ n-is in
+    rw tallies
+    (none_added c.requires c.places-p.result c.places-p.ensures c.clear.new.work (rw n-is at c.clear.ensures.work) (front a.n a.k c.clear.new.work) c.clear.new.counts c.fill.new.self
+    (rw n-is at c.clear.ensures.counts) (rw places at (c.fill.ensures.after (λ y h. h))))
 
 pub returns : goal.returns
 returns c =
     let a = c.args in
+    let s = c.split_at_mut-counts in
     let p = c.places-p in
     let v = c.clear.new.work in
-    let j = c.clear.new.counts in
-    let room = same_room a.n a.k a.count a.samples.now a.work.now c.add_samples.new.work a.ints.now c.add_samples.new.ints c.requires (c.add_samples.auto.work ∙ c.clear.auto.work) (c.add_samples.auto.ints ∙ c.clear.auto.counts) in
-    let book : (codebook : List Float) → Holding a.n a.k 0 codebook a.work.now → codebook ≡ front a.n a.k v = λ codebook h.
-    held_front a.n a.k codebook a.work.now (omega (arith, c.requires.floats)) h ∙ sym (cleared_front c.requires p.result p.ensures v j c.clear.ensures.work c.clear.ensures.counts) in
+    let j = c.add_samples in
+    let n-is = s.ensures.front_len in
+    let cleared-work = rw n-is at c.clear.ensures.work in
+    let tallies = c.clear.auto.counts ∙ n-is in
+    let left : length j.new.counts ≡ a.n = j.auto.counts ∙ tallies in
+    let places : length j.new.numbers ≡ a.n = omega (arith, c.requires.integers) in
+    let floats = j.auto.work ∙ c.clear.auto.work in
+    let room = same_room a.n a.k a.count a.samples.now a.work.now j.new.work a.ints.now c.requires floats in
+    let sums = rw tallies at j.ensures in
+    let is-means = rw left at c.means.ensures in
     record {
       first = λ t codebook ek en h.
-          subst (λ (z : List Float). AtFirst a.k a.n a.count a.samples.now z t c.means.new.work c.add_samples.new.ints) (sym (book codebook h))
-          (at_first room (front a.n a.k v) c.add_samples.ensures.added p.result p.ensures c.means.new.work c.means.ensures t ek en);
+          let book : codebook ≡ front a.n a.k v = held_front a.n a.k codebook a.work.now (omega (arith, c.requires.floats)) h ∙ sym (cleared_front c.requires p.result p.ensures v cleared-work) in
+          rw book (at_first room (front a.n a.k v) j.new.counts j.new.numbers left places sums.added p.result p.ensures c.means.new.work is-means t ek en);
       kept = (
-        c.means.auto.work ∙ c.add_samples.auto.work ∙ c.clear.auto.work,
+        c.means.auto.work ∙ floats,
         λ i l.
-            (means_left room (front a.n a.k v) c.add_samples.ensures.added p.result p.ensures c.means.new.work c.means.ensures).below i l
-            ∙ c.add_samples.ensures.kept.below i l ∙ untouched c.requires p.result p.ensures v j c.clear.ensures.work c.clear.ensures.counts i l,
-        c.add_samples.auto.ints ∙ c.clear.auto.counts,
+            (means_left room (front a.n a.k v) j.new.counts j.new.numbers left places sums.added p.result p.ensures c.means.new.work is-means).below i l
+            ∙ sums.kept.below i l ∙ untouched c.requires p.result p.ensures v cleared-work i l,
+        omega (arith, length-append j.new.counts j.new.numbers),
       );
     }

@@ -8,7 +8,7 @@ use mathlib.Core.List.{List}
 use lib.ListN.{length}
 use lib.Seq.{length-take-le}
 use lib.Dec.{T}
-use lib.Ieee.{Float, inf, lt, of_bits, nan_bits}
+use lib.Ieee.{Float, inf, lt, of_bits}
 use Rattle.ieee.proofs.Value.{holds_true}
 use Rattle.lloyd_search.specs.declared.Found.{Found}
 use Rattle.lloyd_search.specs.declared.Choice.{Choice}
@@ -23,40 +23,36 @@ use Rattle.lloyd_round.proofs.nearest_cell.Goals as goal
 answer : (i j : ℕ) (x : Float) (d : ℕ → Float) → i ≡ j → x ≡ d i → ◌≡◌ {A = Found} (record { index = i; distance = x }) (record { index = j; distance = d j })
 answer i j x d e h = rw (h, e)
 
-pub float_from_bits-t-14 : goal.float_from_bits-t-14
-unfolding nan_bits
-float_from_bits-t-14 c = tt
-
 pub overflow_mul-from : goal.overflow_mul-from
 overflow_mul-from c =
     let a = c.args in
     let k = length a.sample.now in
-    let i = c.search-choice.result.found.index in
-    let below : i < a.n = subst (λ (r : Choice). r.found.index < a.n) (sym c.search-choice.ensures) (found_below a.n k (front a.n k a.work.now) (vector_of a.sample.now) c.requires.0) in
+    let i = c.search.result.found.index in
+    let below : i < a.n = subst (λ (r : Choice). r.found.index < a.n) (sym c.search.ensures) (found_below a.n k (front a.n k a.work.now) (vector_of a.sample.now) c.requires.0) in
     omega (arith, row_inside i a.n k below, c.requires.1)
 
 pub overflow_add-to : goal.overflow_add-to
 overflow_add-to c =
     let a = c.args in
     let k = length a.sample.now in
-    let i = c.search-choice.result.found.index in
-    let below : i < a.n = subst (λ (r : Choice). r.found.index < a.n) (sym c.search-choice.ensures) (found_below a.n k (front a.n k a.work.now) (vector_of a.sample.now) c.requires.0) in
+    let i = c.search.result.found.index in
+    let below : i < a.n = subst (λ (r : Choice). r.found.index < a.n) (sym c.search.ensures) (found_below a.n k (front a.n k a.work.now) (vector_of a.sample.now) c.requires.0) in
     omega (arith, row_inside i a.n k below, c.requires.1)
 
 pub offset_bounds-codewords-from : goal.offset_bounds-codewords-from
 offset_bounds-codewords-from c =
     let a = c.args in
     let k = length a.sample.now in
-    let i = c.search-choice.result.found.index in
-    let below : i < a.n = subst (λ (r : Choice). r.found.index < a.n) (sym c.search-choice.ensures) (found_below a.n k (front a.n k a.work.now) (vector_of a.sample.now) c.requires.0) in
+    let i = c.search.result.found.index in
+    let below : i < a.n = subst (λ (r : Choice). r.found.index < a.n) (sym c.search.ensures) (found_below a.n k (front a.n k a.work.now) (vector_of a.sample.now) c.requires.0) in
     omega (arith, row_inside i a.n k below, c.requires.1, c.well_formed.0.1)
 
 pub slice_bounds-squared_distance-end : goal.slice_bounds-squared_distance-end
 slice_bounds-squared_distance-end c =
     let a = c.args in
     let k = length a.sample.now in
-    let i = c.search-choice.result.found.index in
-    let below : i < a.n = subst (λ (r : Choice). r.found.index < a.n) (sym c.search-choice.ensures) (found_below a.n k (front a.n k a.work.now) (vector_of a.sample.now) c.requires.0) in
+    let i = c.search.result.found.index in
+    let below : i < a.n = subst (λ (r : Choice). r.found.index < a.n) (sym c.search.ensures) (found_below a.n k (front a.n k a.work.now) (vector_of a.sample.now) c.requires.0) in
     omega (arith, row_inside i a.n k below, c.requires.1, length-take-le (a.n * k) a.work.now c.requires.1)
 
 -- below infinity the search's own distance is that of the codeword found
@@ -71,7 +67,7 @@ returns-then-found c =
     let s = q in
     let k = length (block) in
     let d : ℕ → Float = λ i. distance k (vector_of (block)) (row_of k (book) i) in
-    let e = ap (λ (r : Choice). r.found) q.search-choice.ensures in
+    let e = ap (λ (r : Choice). r.found) q.search.ensures in
     e ∙ ap (λ (x : Float). record { index = (first_least d s.args.n).index; distance = x }) (found_is d s.args.n (subst (λ (f : Found). T (lt f.distance (inf false))) e (holds_true c.if-found.true)))
 
 pub returns : goal.returns
@@ -83,5 +79,5 @@ returns c =
     let q = c in
     let s = q in
     let k = length (block) in
-    answer q.search-choice.result.found.index _ c.squared_distance-distance.result (λ i. distance k (vector_of (block)) (row_of k (book) i)) (ap (λ (r : Choice). r.found.index) q.search-choice.ensures)
-    (c.squared_distance-distance.ensures ∙ part_distance (vector_of (block)) (book) q.search-choice.result.found.index k (q.search-choice.result.found.index * k) refl)
+    answer q.search.result.found.index _ c.squared_distance-distance.result (λ i. distance k (vector_of (block)) (row_of k (book) i)) (ap (λ (r : Choice). r.found.index) q.search.ensures)
+    (c.squared_distance-distance.ensures ∙ part_distance (vector_of (block)) (book) q.search.result.found.index k (q.search.result.found.index * k) refl)

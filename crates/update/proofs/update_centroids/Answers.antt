@@ -8,25 +8,9 @@ use Rattle.lloyd_events.proofs.Log.{logged, log_more, length_more}
 use Rattle.lloyd_update.specs.Alone.{Call}
 use Rattle.lloyd_update.specs.Progress.{call_of, UpdateProgress}
 use Rattle.lloyd_update.proofs.BeginLaw.{has_begun}
-use Rattle.slices.specs.Lists.{words_of}
-use Rattle.update.proofs.EndLaw.{zeroed, kept, refused_alone, left, long_enough, codebook_is, work_is, slots_are}
+use Rattle.update.proofs.EndLaw.{zeroed, kept, long_enough, codebook_is, work_is, slots_are}
 use Rattle.update.proofs.update_centroids.Goals as goal
 use Rattle.update.proofs.update_centroids.Goals.{then-is_err, else-is_err}
-
-pub returns-in-Refused : goal.returns-in-Refused
-returns-in-Refused c =
-    let a = c.args in
-    let t = c.loop-s.invariant in
-    let call : Call = call_of a.t a.codebook.now a.samples.now a.assignments.now (length a.work.now) (length a.counts.now) (length a.events.now) in
-    let x = c.in-Refused.refusal in
-    let k = subst (UpdateProgress call t.events c.loop-s.work c.loop-s.counts) c.in-Refused.is t.progress in
-    let early = t.early x c.in-Refused.is in (
-      refused_alone call x k,
-      c.begin-s.ensures.codebook ∙ left call x k a.codebook.now a.codebook.now (λ r. words_of call.size call.dim r.cells.word),
-      early.0 ∙ left call x k a.work.now (replicate (length a.work.now) plus_zero) (λ r. replicate (length a.work.now) plus_zero),
-      early.1 ∙ left call x k a.counts.now (replicate (length a.counts.now) 0) (λ r. replicate (length a.counts.now) 0),
-      t.is_log ∙ ap (λ z. logged z a.events.now) early.2 ∙ left call x k a.events.now (replicate (length a.events.now) zero_event) (λ r. logged r.events a.events.now),
-    )
 
 pub loop-s-preserved : goal.loop-s-preserved
 loop-s-preserved c =
@@ -34,7 +18,7 @@ loop-s-preserved c =
     let t = c.loop-s.invariant in
     let e = c.in-Made.repair.event in
     let slots = a.events.now in
-    let call : Call = call_of a.t a.codebook.now a.samples.now a.assignments.now (length a.work.now) (length a.counts.now) (length slots) in
+    let call : Call = call_of a.t a.codebook.now (length a.work.now) (length a.counts.now) (length slots) in
     let going = subst (UpdateProgress call t.events c.loop-s.work c.loop-s.counts) c.in-Made.is t.progress in
     let one_more : c.loop-s.used + 1 ≡ length (t.events ++ (e ∷ [])) = ap (λ (k : ℕ). k + 1) t.is_used ∙ sym (length_more t.events e) in
     let goes_on = c.next_repair-s.ensures call t.events (record { size = refl; dim = refl; restart = refl; iteration = refl; samples = refl; slots = refl }) one_more going in
@@ -51,7 +35,7 @@ pub finish_update-requires : goal.finish_update-requires
 finish_update-requires c = λ h.
     let a = c.args in
     let t = c.loop-s.invariant in
-    let call : Call = call_of a.t a.codebook.now a.samples.now a.assignments.now (length a.work.now) (length a.counts.now) (length a.events.now) in
+    let call : Call = call_of a.t a.codebook.now (length a.work.now) (length a.counts.now) (length a.events.now) in
     let last = subst (UpdateProgress call t.events c.loop-s.work c.loop-s.counts) c.in-Stopped.is t.progress in
     let long = long_enough call t.events c.loop-s.work c.loop-s.counts c.in-Stopped.answer last (c.loop-s.auto.work ∙ c.begin-s.auto.work) in
     omega arith
@@ -61,7 +45,7 @@ returns c =
     let a = c.args in
     let t = c.loop-s.invariant in
     let slots = a.events.now in
-    let call : Call = call_of a.t a.codebook.now a.samples.now a.assignments.now (length a.work.now) (length a.counts.now) (length slots) in
+    let call : Call = call_of a.t a.codebook.now (length a.work.now) (length a.counts.now) (length slots) in
     let x = c.in-Stopped.answer in
     let last = subst (UpdateProgress call t.events c.loop-s.work c.loop-s.counts) c.in-Stopped.is t.progress in
     let zeros = replicate (length slots) zero_event in

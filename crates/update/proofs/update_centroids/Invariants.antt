@@ -20,7 +20,7 @@ pub record Turn (c : Call) (work₀ : List Float) (counts₀ : List ℕ) (slots�
 
 abbrev pub invariant-loop-s : goal.invariant-loop-s
 invariant-loop-s l =
-    Turn (call_of l.t l.fn.codebook l.samples l.assignments (length l.fn.work) (length l.fn.counts) (length l.fn.events)) l.fn.work l.fn.counts l.fn.events l.work l.counts l.events l.used l.s
+    Turn (call_of l.t l.fn.codebook (length l.fn.work) (length l.fn.counts) (length l.fn.events)) l.fn.work l.fn.counts l.fn.events l.work l.counts l.events l.used l.s
 
 abbrev pub decreases-loop-s : goal.decreases-loop-s
 decreases-loop-s l = l.slots - l.used
