@@ -28,6 +28,7 @@ pub extern "C" fn fib_write_frame(
 }
 
 // Width, count, and the lengths of norm and indices in `whole`.
+// Kept: matched here, since the lengths are read off the bytes, which a frame alone does not hold.
 #[unsafe(no_mangle)]
 pub extern "C" fn fib_parse_frame(bytes: &[u8], whole: &mut [u64; 4], real: &mut [f64; 2]) -> u32
     ensures { found result whole.new real.new

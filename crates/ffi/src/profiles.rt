@@ -6,7 +6,7 @@ ghost use Rattle.ffi_crossing.specs.Crossing.{found, crossed, none, one_whole};
 ghost use Rattle.ffi_profile.specs.Profiles.{profile_from, rates_in, fields_after};
 
 use ffi_crossing::{put, put_answer, put_refusal};
-use profile::FibQuantProfile;
+use profile::{FibQuantProfile, GivenProfile};
 
 // A whole profile.
 #[unsafe(no_mangle)]
@@ -59,8 +59,13 @@ pub extern "C" fn fib_validate_profile(
         training_samples,
         empty_cell_policy,
     );
-    let verdict = profile.validate(schema, rotation_algorithm, log2);
-    put_answer(verdict, whole, real)
+    let given = GivenProfile {
+        profile,
+        schema,
+        rotation_algorithm,
+        log2,
+    };
+    put_answer(given.validate(), whole, real)
 }
 
 // The width of an index in whole[0].
@@ -149,6 +154,7 @@ pub extern "C" fn fib_paper_default(
         (found result whole.new real.new ≡ crossed rates_in o)
         × (fields.new ≡ fields_after o fields.old) }
 {
+    // Kept: matched here, since a profile goes to a buffer of its own besides.
     match FibQuantProfile::paper_default(ambient_dim, block_dim, codebook_size, seed, log2) {
         Ok(profile) => {
             *fields = ffi_profile::fields_of(profile);

@@ -133,6 +133,7 @@ impl Crosses for u64 {
     }
 }
 
+// Kept: an impl for each width, as std's From has: one over all that u64 takes would take in f64 and () for the check.
 impl Crosses for u32 {
     ghost values = { one_whole };
 

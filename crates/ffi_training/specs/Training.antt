@@ -1,14 +1,17 @@
 -- What an update is told as the host hands it in, and a refinement's report as it hands it in and gets it back.
 -- Definitions only.
 use Rattle.std.specs.Prelude.{ℕ, cond, List, [], ◌∷◌, eqb, Float, Option, None, Some}
+use Rattle.std.specs.Borrow.{Bor}
 use Rattle.error.specs.Numbers.{Value, real, Outcome, completed, refused}
 use Rattle.lloyd_update.specs.declared.UpdateTerms.{UpdateTerms}
 use Rattle.lloyd_refine.specs.declared.LloydReport.{LloydReport}
 use Rattle.ffi_profile.specs.Choices.{policy_at}
 
--- the terms of these numbers; an unknown number is the policy that repairs nothing
-abbrev pub terms_from : (n k policy_number restart iteration : ℕ) → UpdateTerms
-terms_from n k policy_number restart iteration = record {
+-- the terms of these; an unknown number is the policy that repairs nothing
+abbrev pub terms_from : Bor (List Float) → Bor (List ℕ) → (n k policy_number restart iteration : ℕ) → UpdateTerms
+terms_from samples assignments n k policy_number restart iteration = record {
+  samples = samples;
+  assignments = assignments;
   codebook_size = n;
   block_dim = k;
   policy = policy_at policy_number;

@@ -19,25 +19,7 @@ use ffi_crossing::{put, put_answer, put_refusal};
 use lloyd_events::LloydRepairEvent;
 use lloyd_refine::LloydReport;
 use lloyd_update::UpdateTerms;
-
-// The terms of an update.
-fn terms(
-    codebook_size: u64,
-    block_dim: u64,
-    policy: u8,
-    restart: u32,
-    iteration: u32,
-) -> UpdateTerms
-    ensures { result ≡ terms_from codebook_size block_dim policy restart iteration }
-{
-    UpdateTerms {
-        codebook_size,
-        block_dim,
-        policy: ffi_profile::choices::policy_at(policy),
-        restart,
-        iteration,
-    }
-}
+use profile::GivenProfile;
 
 // One update of a codebook, with the events of its repairs in the first slots.
 #[unsafe(no_mangle)]
@@ -56,8 +38,8 @@ pub extern "C" fn fib_update(
     whole: &mut [u64; 4],
     real: &mut [f64; 2],
 ) -> u32
-    ensures { let c = call_of (terms_from codebook_size block_dim policy restart iteration)
-        codebook.old samples.now assignments.now
+    ensures { let c = call_of (terms_from samples.entry assignments.entry codebook_size block_dim
+        policy restart iteration) codebook.old
         (length work.old) (length counts.old) (length events.old) in
         let outcome = and_then (update_alone c) (λ u. completed (length u.events)) in
         (found result whole.new real.new ≡ crossed one_whole outcome)
@@ -66,12 +48,20 @@ pub extern "C" fn fib_update(
         × (counts.new ≡ work_after 0 c counts.old)
         × (events.new ≡ slots_after c events.old) }
 {
-    let t = terms(codebook_size, block_dim, policy, restart, iteration);
-    let answer = update::update_centroids(codebook, samples, assignments, work, counts, events, t);
+    let t = UpdateTerms {
+        samples,
+        assignments,
+        codebook_size,
+        block_dim,
+        policy: ffi_profile::choices::policy_at(policy),
+        restart,
+        iteration,
+    };
+    let answer = update::update_centroids(codebook, work, counts, events, t);
     put_answer(answer, whole, real)
 }
 
-// The winner of these two.
+// The winner of these two. Kept: what a number of the C interface counts as belongs to the exports.
 fn winner_from(won: u8, number: u32) -> Option<u32>
     ensures { result ≡ winner_from won number }
 {
@@ -79,7 +69,7 @@ fn winner_from(won: u8, number: u32) -> Option<u32>
 }
 
 // The answer of a refinement: its two errors in `real`, the report's
-// other members in `report`, which a refusal leaves as it was.
+// other members in `report`, which a refusal leaves as it was. Kept: matched here, by this buffer of its own.
 fn put_refined(
     answer: Result<LloydReport, Refusal>,
     report: &mut [u64; 8],
@@ -173,18 +163,14 @@ pub extern "C" fn fib_refine(
         training_samples,
         empty_cell_policy,
     );
-    let answer = refine::refine_codebook(
-        initial,
-        samples,
-        matrices,
-        codewords,
-        work,
-        counts,
+    let given = GivenProfile {
         profile,
         schema,
         rotation_algorithm,
         log2,
-        events,
+    };
+    let answer = refine::refine_codebook(
+        given, initial, samples, matrices, codewords, work, counts, events,
     );
     put_refined(answer, report, whole, real)
 }

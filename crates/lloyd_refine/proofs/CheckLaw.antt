@@ -6,8 +6,9 @@ use mathlib.Core.Bool.{not}
 use mathlib.Core.List.{List, [], ◌∷◌}
 use lib.Dec.{eqb, leb}
 use lib.ListN.{length}
-use lib.Ieee.{Float}
+use lib.Ieee.{Float, of_bits}
 use borrow.Author.Tests.{not-false, eqb-true, leb-true}
+use Rattle.error.specs.Names.{initial_slice, matrix_slice, samples_slice}
 use Rattle.error.specs.Numbers.{Outcome, completed, whole, also}
 use Rattle.error.proofs.Outcomes.{passed}
 use Rattle.error.proofs.Refusals.{also_first, also_next}
@@ -16,6 +17,7 @@ use Rattle.profile.specs.Valid.{Valid}
 use Rattle.profile.specs.Checks.{validity}
 use Rattle.profile.proofs.Facts as profile-facts
 use Rattle.lloyd_search.proofs.LimitLaw.{passed_bounded}
+use Rattle.lloyd_refine.specs.declared.TheConstants.{REFINE_LIMIT}
 use Rattle.lloyd_refine.specs.Refine.{Job, size_of, dim_of, count_of, restarts_of, refine_limit, room_of, length_checks, value_checks, refine_checks}
 
 pub record Passed (j : Job) : Type 0 where
@@ -63,15 +65,15 @@ checks_passed j e =
       matrices_within = y.0;
     }
 
--- ---- the checks, one after another: the values of each slice are one check
+-- ---- the checks, one after another: the values of each slice are one check, by the program's limit
 -- the values of one slice
-abbrev pub values_of : ℕ → List Float → Outcome Unit
-values_of slice xs = bounded slice (first_outside refine_limit xs) (completed tt)
+abbrev values_of : ℕ → List Float → Outcome Unit
+values_of slice xs = bounded slice (first_outside REFINE_LIMIT xs) (completed tt)
 
 also-bounded : (slice : ℕ) (f : Option ℕ) (rest : Outcome Unit) → also (bounded slice f (completed tt)) rest ≡ bounded slice f rest
 also-bounded slice None rest = refl
 also-bounded slice (Some place) rest = refl
 
-pub one_by_one : (j : Job) → refine_checks j ≡ also (validity j.profile j.schema j.algorithm j.log2) (also (length_checks (room_of j) j) (also (values_of 1 j.initial) (also (values_of 2 j.samples) (values_of 3 j.matrices))))
-unfolding refine_checks value_checks
-one_by_one j = rw (also-bounded 1 (first_outside refine_limit j.initial), also-bounded 2 (first_outside refine_limit j.samples))
+pub one_by_one : (j : Job) → refine_checks j ≡ also (validity j.profile j.schema j.algorithm j.log2) (also (length_checks (room_of j) j) (also (values_of initial_slice j.initial) (also (values_of samples_slice j.samples) (values_of matrix_slice j.matrices))))
+unfolding refine_checks value_checks of_bits
+one_by_one j = rw (also-bounded initial_slice (first_outside refine_limit j.initial), also-bounded samples_slice (first_outside refine_limit j.samples))

@@ -21,26 +21,28 @@ use Rattle.lloyd_repair.specs.Running.{Running, Turned}
 use Rattle.lloyd_update.proofs.RepairsLaw.{events_within, not_completed}
 use Rattle.lloyd_round.specs.Round.{places_of, numbers_of, Holding}
 use Rattle.lloyd_refine.specs.declared.LloydReport.{LloydReport}
+use Rattle.lloyd_refine.specs.declared.RefineTerms.{RefineTerms}
 use Rattle.lloyd_refine.specs.declared.RefineState.{RefineState}
 use Rattle.lloyd_refine.specs.Refine.{Job, size_of, dim_of, refine_checks, round_terms, Trained, trained_from, Best, refinement}
 use Rattle.lloyd_refine.specs.Report.{report_of}
-use Rattle.lloyd_refine.specs.Standing.{job_of, round_means, round_far, InRound, Ended, Matches}
+use Rattle.lloyd_refine.specs.Standing.{job_of, round_means, round_far, InRound, Ended, MatchesRound, Matches}
 use Rattle.lloyd_refine.specs.Pauses.{at_cell, paused, Pausing, ReadyIn}
 use Rattle.lloyd_refine.proofs.CheckLaw.{checks_passed}
 use Rattle.lloyd_refine.proofs.EventLaw.{bests_within, rounds_within, refused_by}
 
--- ---- a job is the one that its arguments make
-pub by_job : (j : Job) {p : FibQuantProfile} {start xs ms : List Float} {most : ℕ} (P : Job → Type 0) → Matches j p start xs ms most
-    → P (job_of p j.schema j.algorithm j.log2 start xs ms j.codewords j.float_work j.integer_work most) → P j
-by_job j {p} {start} {xs} {ms} {most} P same h = subst P is h
-  where
-    is : job_of p j.schema j.algorithm j.log2 start xs ms j.codewords j.float_work j.integer_work most ≡ j
-    is = rw (← same.profile, ← same.initial, ← same.samples, ← same.matrices, ← same.slots)
+-- ---- a job is the one that its terms make, with its own strings and lengths
+abbrev pub job_for : Job → RefineTerms → Job
+job_for j terms = job_of terms.given.profile j.schema j.algorithm j.log2 terms.initial.now terms.samples.now terms.matrices.now j.codewords j.float_work j.integer_work terms.slots
 
-pub to_args : (j : Job) {p : FibQuantProfile} {start xs ms : List Float} {most : ℕ} (P : Job → Type 0) → Matches j p start xs ms most → P j
-    → P (job_of p j.schema j.algorithm j.log2 start xs ms j.codewords j.float_work j.integer_work most)
-to_args j {p} {start} {xs} {ms} {most} P same =
-    by_job j (λ (z : Job). P z → P (job_of p j.schema j.algorithm j.log2 start xs ms j.codewords j.float_work j.integer_work most)) same (λ h. h)
+-- and with its own initial codebook and matrices, which a round does not read
+abbrev pub round_for : Job → RefineTerms → Job
+round_for j terms = job_of terms.given.profile j.schema j.algorithm j.log2 j.initial terms.samples.now j.matrices j.codewords j.float_work j.integer_work terms.slots
+
+pub is_job : {j : Job} {terms : RefineTerms} → Matches j terms → job_for j terms ≡ j
+is_job same = let r = same.round in rw (← r.profile, ← same.initial, ← r.samples, ← same.matrices, ← r.slots)
+
+pub is_round : {j : Job} {terms : RefineTerms} → MatchesRound j terms → round_for j terms ≡ j
+is_round same = rw (← same.profile, ← same.samples, ← same.slots)
 
 -- ---- a refusal that `?` hands on
 pub handed_on : {A : Type 0} (y : Result A Refusal) (x : Refusal) → IsErrAnd y (λ e. e ≡ x) → y ≡ Err x
@@ -140,10 +142,10 @@ module _ {j : Job} {b : Best} {t : Trained} {u : Repaired} {s : RefineState} {wo
         not_refined j (t.events ++ u.events) after x h.checked
         (refused_by j x s.restart s.iteration b t h.checked h.restart_below h.round_below h.bests h.rounds (h.repairs ∙ o))
 
--- ---- what is ready, by the arguments
-module _ {p : FibQuantProfile} {xs : List Float} {most : ℕ} {work : List Float} {ints : List ℕ} {s : RefineState} (q : ReadyIn p xs most work ints s) where
-  pub room_before : s.before ≤ most
+-- ---- what is ready, by the terms
+module _ {terms : RefineTerms} {work : List Float} {ints : List ℕ} {s : RefineState} (q : ReadyIn terms work ints s) where
+  pub room_before : s.before ≤ terms.slots
   room_before = subst (λ (z : ℕ). s.before ≤ z) q.matches.slots (before_within q.standing)
 
-  pub small_of : 3 * (p.codebook_size * p.block_dim) + p.codebook_size < 0x1_0000_0000_0000
+  pub small_of : let p = terms.given.profile in 3 * (p.codebook_size * p.block_dim) + p.codebook_size < 0x1_0000_0000_0000
   small_of = subst (λ (z : FibQuantProfile). 3 * (z.codebook_size * z.block_dim) + z.codebook_size < 0x1_0000_0000_0000) q.matches.profile (small_places q.standing)

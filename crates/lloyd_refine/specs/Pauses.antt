@@ -6,12 +6,13 @@ use Rattle.lloyd_cells.specs.Repair.{Repaired}
 use Rattle.error.specs.declared.Refusal.{Refusal}
 use Rattle.lloyd_repair.specs.declared.Repair.{Repair}
 use Rattle.lloyd_refine.specs.declared.LloydReport.{LloydReport}
+use Rattle.lloyd_refine.specs.declared.RefineTerms.{RefineTerms}
 use Rattle.lloyd_refine.specs.declared.RefineState.{RefineState}
 use Rattle.lloyd_refine.specs.declared.RefineStep.TheVariants.{Made, Done}
 use Rattle.lloyd_refine.specs.declared.Pause.{Pause}
 use Rattle.lloyd_refine.specs.declared.Pause.TheVariants.{RoundOver, At}
 use Rattle.lloyd_refine.specs.Refine.{Job, size_of, Trained, Best}
-use Rattle.lloyd_refine.specs.Standing.{InRound, RefineProgress, Matches}
+use Rattle.lloyd_refine.specs.Standing.{InRound, RefineProgress, MatchesRound}
 
 -- the report of what a refinement has found so far
 abbrev pub report_in : FibQuantProfile → RefineState → LloydReport
@@ -64,11 +65,10 @@ Pausing j events work ints (Ok (At s)) = RefineProgress j events work ints (Ok s
 Pausing j events work ints (Err x) = RefineProgress j events work ints (Err x)
 
 -- ---- some refinement stands there
-pub record ReadyIn (p : FibQuantProfile) (samples : List Float) (slots : ℕ) (work : List Float) (ints : List ℕ)
-    (s : RefineState) : Type 0 where
+pub record ReadyIn (terms : RefineTerms) (work : List Float) (ints : List ℕ) (s : RefineState) : Type 0 where
   pub job : Job
   pub b : Best
   pub t : Trained
   pub u : Repaired
-  pub matches : Matches job p job.initial samples job.matrices slots
+  pub matches : MatchesRound job terms
   pub standing : InRound job b t u s work ints

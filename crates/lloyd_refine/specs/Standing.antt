@@ -6,6 +6,7 @@ use Rattle.lloyd_events.specs.declared.LloydRepairEvent.{LloydRepairEvent}
 use Rattle.lloyd_cells.specs.Repair.{Cells, Repaired, repair_to}
 use Rattle.lloyd_repair.specs.Running.{Running}
 use Rattle.lloyd_round.specs.Round.{means_of, far_of, places_of, numbers_of, Holding}
+use Rattle.lloyd_refine.specs.declared.RefineTerms.{RefineTerms}
 use Rattle.lloyd_refine.specs.declared.RefineState.{RefineState}
 use Rattle.lloyd_refine.specs.declared.RefineRepair.{RefineRepair}
 use Rattle.lloyd_refine.specs.declared.RefineStep.{RefineStep}
@@ -30,6 +31,11 @@ job_of profile schema algorithm log2 initial samples matrices codewords floats i
   integer_work = integers;
   slots = slots;
 }
+
+-- the job of what a refinement is told, and of the lengths of its buffers
+abbrev pub job_told : RefineTerms → ℕ → ℕ → ℕ → Job
+job_told t codewords floats integers =
+    job_of t.given.profile t.given.schema.now t.given.rotation_algorithm.now t.given.log2 t.initial.now t.samples.now t.matrices.now codewords floats integers t.slots
 
 -- what the update of a round over a codebook starts from
 abbrev pub round_means : Job → List Float → Cells
@@ -87,18 +93,21 @@ RefineProgress j events work ints (Ok (Made m)) = Going j events work ints m
 RefineProgress j events work ints (Ok (Done r)) = Ended j events work (Ok r)
 RefineProgress j events work ints (Err x) = Ended j events work (Err x)
 
+-- what a job was called with, as far as its rounds read it
+pub record MatchesRound (j : Job) (terms : RefineTerms) : Type 0 where
+  pub profile : j.profile ≡ terms.given.profile
+  pub samples : j.samples ≡ terms.samples.now
+  pub slots : j.slots ≡ terms.slots
+
 -- what a job was called with
-pub record Matches (j : Job) (p : FibQuantProfile) (start xs ms : List Float) (most : ℕ) : Type 0 where
-  pub profile : j.profile ≡ p
-  pub initial : j.initial ≡ start
-  pub samples : j.samples ≡ xs
-  pub matrices : j.matrices ≡ ms
-  pub slots : j.slots ≡ most
+pub record Matches (j : Job) (terms : RefineTerms) : Type 0 where
+  pub round : MatchesRound j terms
+  pub initial : j.initial ≡ terms.initial.now
+  pub matrices : j.matrices ≡ terms.matrices.now
 
 -- some refinement is going on
-pub record ReadyRefine (p : FibQuantProfile) (initial samples matrices : List Float) (slots : ℕ) (work : List Float)
-    (ints : List ℕ) (made : RefineRepair) : Type 0 where
+pub record ReadyRefine (terms : RefineTerms) (work : List Float) (ints : List ℕ) (made : RefineRepair) : Type 0 where
   pub job : Job
   pub events : List LloydRepairEvent
-  pub matches : Matches job p initial samples matrices slots
+  pub matches : Matches job terms
   pub going : Going job events work ints made

@@ -7,10 +7,8 @@
 ghost use Rattle.std.specs.Prelude.{◌≡◌, true, is_ok, cond, [], ◌++◌, ◌+◌, ◌*◌, ◌/◌, ◌≤◌, ◌<◌, length, get_or, take, replicate};
 ghost use Rattle.std.specs.Float.{nan, binary32};
 ghost use Rattle.std.specs.Float.Ieee.{lt};
-ghost use Rattle.error.specs.Names.{slice_number};
-ghost use Rattle.error.specs.Numbers.{completed, outcome};
+ghost use Rattle.error.specs.Numbers.{outcome};
 ghost use Rattle.ieee.specs.Sum.{plus_zero};
-ghost use Rattle.slices.specs.Limit.{first_outside, bounded};
 ghost use Rattle.slices.specs.Lists.{tabulate, patched};
 ghost use Rattle.narrow.specs.Pack.{narrow_to};
 ghost use Rattle.profile.specs.Valid.{Valid};
@@ -19,15 +17,26 @@ ghost use Rattle.lloyd_search.specs.Nearest.{mean_error};
 ghost use Rattle.lloyd_events.specs.declared.LloydRepairEvent.{LloydRepairEvent};
 ghost use Rattle.lloyd_events.specs.Events.{zero_event};
 ghost use Rattle.lloyd_cells.specs.Repair.{Repaired};
-ghost use Rattle.lloyd_refine.specs.Refine.{Job, Best, Trained, refine_limit, room_of, length_checks, refine_checks};
+ghost use Rattle.lloyd_refine.specs.Refine.{Job, Best, Trained, room_of, length_checks, refine_checks};
 ghost use Rattle.lloyd_refine.specs.Report.{winner_below, same_settings, report_test};
-ghost use Rattle.lloyd_refine.specs.Standing.{job_of, InRound, Matches};
+ghost use Rattle.lloyd_refine.specs.Standing.{job_told, InRound, MatchesRound};
 ghost use Rattle.lloyd_refine.specs.Pauses.{report_in, with_best, paused, InSameRound, Pausing, ReadyIn};
 
 use error::{Refusal, ReportSite, Slice};
 use lloyd_events::LloydRepairEvent;
 use lloyd_repair::{Numbers, Repair, RepairTerms};
-use profile::FibQuantProfile;
+use lloyd_search::Codewords;
+use profile::{FibQuantProfile, GivenProfile};
+
+// What a refinement is told beside its buffers; `slots` is how many events fit.
+#[derive(Clone, Copy)]
+pub struct RefineTerms<'a> {
+    pub given: GivenProfile<'a>,
+    pub initial: &'a [f64],
+    pub samples: &'a [f64],
+    pub matrices: &'a [f64],
+    pub slots: usize,
+}
 
 // What a refinement found. It counts the repairs and the events that were written.
 #[derive(Clone, Copy)]
@@ -83,34 +92,30 @@ pub enum Pause {
 // The largest magnitude that a refinement takes: 2 ^ 20.
 const REFINE_LIMIT: f64 = 1048576.0;
 
-// The lengths of the slices, for a profile that is valid. The strings beside it do not matter to them.
+// The lengths of the slices, for a profile that is valid.
 #[tactic(auto, unfolding(crate::specs::Refine::length_checks))]
 fn check_lengths(
-    initial: &[f64],
-    samples: &[f64],
-    matrices: &[f64],
-    profile: FibQuantProfile,
+    terms: RefineTerms,
     codewords: usize,
     floats: usize,
     integers: usize,
-    slots: usize,
 ) -> Result<(), Refusal>
-    requires { Valid profile }
-    ensures { let j = job_of profile [] [] nan initial.now samples.now
-        matrices.now codewords floats integers slots in
+    requires { Valid terms.given.profile }
+    ensures { let j = job_told terms.entry codewords floats integers in
         outcome result ≡ length_checks (room_of j) j }
 {
+    let profile = terms.given.profile;
     let n = profile.codebook_size as usize;
     let k = profile.block_dim as usize;
     let count = profile.training_samples as usize;
     let later = profile.lloyd_restarts as usize - 1;
-    if initial.len() != n * k {
+    if terms.initial.len() != n * k {
         return Err(Refusal::SliceLength(Slice::Initial));
     }
-    if samples.len() != count * k {
+    if terms.samples.len() != count * k {
         return Err(Refusal::SliceLength(Slice::Samples));
     }
-    if matrices.len() != later * (k * k) {
+    if terms.matrices.len() != later * (k * k) {
         return Err(Refusal::SliceLength(Slice::Matrix));
     }
     if codewords != n * k {
@@ -122,50 +127,27 @@ fn check_lengths(
     if integers != 2 * n {
         return Err(Refusal::SliceLength(Slice::IntegerWork));
     }
-    if lloyd_events::MAX_EVENT_SLOTS < slots {
+    if lloyd_events::MAX_EVENT_SLOTS < terms.slots {
         return Err(Refusal::SliceLength(Slice::Events));
     }
     Ok(())
 }
 
-// 18 at the first value of a slice that is not finite or too large.
-fn check_values(slice: Slice, values: &[f64]) -> Result<(), Refusal>
-    ensures { outcome result ≡ bounded (slice_number slice) (first_outside refine_limit values.now) (completed tt) }
-{
-    match slices::first_outside(values, REFINE_LIMIT) {
-        None => Ok(()),
-        Some(place) => Err(Refusal::OutOfBounds {
-            slice,
-            place: place as u64,
-        }),
-    }
-}
-
 // The checks of a refinement, in their order.
+#[tactic(auto, using(crate::proofs::CheckLaw::one_by_one, error::proofs::Refusals::also_exit, error::proofs::Refusals::also_on, profile::proofs::Facts::valid))]
 pub fn check_refine(
-    initial: &[f64],
-    samples: &[f64],
-    matrices: &[f64],
-    profile: FibQuantProfile,
-    schema: &[u8],
-    rotation_algorithm: &[u8],
-    log2: f64,
+    terms: RefineTerms,
     codewords: usize,
     floats: usize,
     integers: usize,
-    slots: usize,
 ) -> Result<(), Refusal>
-    ensures { outcome result
-        ≡ refine_checks (job_of profile schema.now rotation_algorithm.now log2
-        initial.now samples.now matrices.now codewords floats integers slots) }
+    ensures { outcome result ≡ refine_checks (job_told terms.entry codewords floats integers) }
 {
-    profile.validate(schema, rotation_algorithm, log2)?;
-    check_lengths(
-        initial, samples, matrices, profile, codewords, floats, integers, slots,
-    )?;
-    check_values(Slice::Initial, initial)?;
-    check_values(Slice::Samples, samples)?;
-    check_values(Slice::Matrix, matrices)
+    terms.given.validate()?;
+    check_lengths(terms, codewords, floats, integers)?;
+    slices::check_within(terms.initial, REFINE_LIMIT, Slice::Initial)?;
+    slices::check_within(terms.samples, REFINE_LIMIT, Slice::Samples)?;
+    slices::check_within(terms.matrices, REFINE_LIMIT, Slice::Matrix)
 }
 
 // The report of what has been found so far.
@@ -213,38 +195,36 @@ fn paused(profile: FibQuantProfile, s: RefineState, turn: Option<Repair>) -> Pau
 // The repairs of a round from the next cell on, up to the next one that is made, or to the end of the round. What
 // stands in the work beside its codebooks is for the next steps; where it is refused it is left for the end to zero.
 pub fn repair_on(
-    samples: &[f64],
+    terms: RefineTerms,
     work: &mut [f64],
     ints: &mut [u32],
-    slots: usize,
-    profile: FibQuantProfile,
     s: RefineState,
 ) -> Result<Pause, Refusal>
-    requires { ReadyIn profile samples.now slots work.old ints.old s }
-    ensures stands { (j : Job) (b : Best) (t : Trained) (u : Repaired)
-        → Matches j profile j.initial samples.now j.matrices slots
+    requires { ReadyIn terms work.old ints.old s }
+    ensures stands { (j : Job) (b : Best) (t : Trained) (u : Repaired) → MatchesRound j terms.entry
         → InRound j b t u s work.old ints.old
         → Pausing j (t.events ++ u.events) work.new ints.new result }
     ensures round { InSameRound s result }
 {
+    let profile = terms.given.profile;
     let n = profile.codebook_size as usize;
     let k = profile.block_dim as usize;
     let numbers = Numbers::InInts(n);
-    let terms = RepairTerms {
+    let repairs = RepairTerms {
         dim: k,
         cells: n,
         restart: s.restart,
         iteration: s.iteration,
-        free: slots - s.before,
-        shown: slots,
+        free: terms.slots - s.before,
+        shown: terms.slots,
     };
     let turn = lloyd_repair::repair_next(
         work,
         ints,
-        samples,
+        terms.samples,
         lloyd_round::places(n, k),
         numbers,
-        terms,
+        repairs,
         s.next,
         s.made,
     )?;
@@ -263,6 +243,8 @@ fn with_best(error: f64, s: RefineState) -> RefineState
 }
 
 // The end of a restart: its codebook is kept where its mean error is strictly less than the best so far.
+// Kept: that k is above zero is asked here, of `mean_error` and of `samples_shaped`, which divide by it; a type for such
+// a number would be unwrapped wherever k is read.
 pub fn keep_better(
     samples: &[f64],
     work: &mut [f64],
@@ -284,7 +266,12 @@ pub fn keep_better(
         (length samples.now / k)) s) s }
 {
     let values = n * k;
-    let error = lloyd_search::mean_error(&work[..values], n, k, samples);
+    let codewords = Codewords {
+        values: &work[..values],
+        count: n,
+        dim: k,
+    };
+    let error = lloyd_search::mean_error(codewords, samples);
     if error < s.best_mse {
         lloyd_restart::copy_part(work, 0, values, values);
         return with_best(error, s);

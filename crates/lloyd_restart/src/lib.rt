@@ -51,7 +51,7 @@ fn rotate_words(matrix: &[f64], initial: &[f64], work: &mut [f64], n: usize, k: 
         ≡ patched work.old 0 (n * k)
         (λ i. applied_at k matrix.now (take k (drop (i / k * k) initial.now)) (i % k)) }
 {
-    // Kept: no chunks_exact, which k = 0 does not allow, and this contract does.
+    // Kept: no chunks_exact, which k = 0 does not allow; to ask for more here would ask more of the callers.
     for c in 0..n {
         let at = c * k;
         let end = at + k;

@@ -4,10 +4,11 @@ use Rattle.error.specs.Numbers.{completed}
 use Rattle.profile.specs.declared.FibQuantProfile.{FibQuantProfile}
 use Rattle.lloyd_events.specs.declared.LloydRepairEvent.{LloydRepairEvent}
 use Rattle.lloyd_round.specs.Round.{Holding}
+use Rattle.lloyd_refine.specs.declared.RefineTerms.{RefineTerms}
 use Rattle.lloyd_refine.specs.declared.RefineState.{RefineState}
 use Rattle.lloyd_refine.specs.declared.Pause.{Pause}
 use Rattle.lloyd_refine.specs.Refine.{Job, size_of, dim_of, restarts_of, iterations_of, refine_checks, Trained, rounds_to, trained_from, error_of, Best, restarts_to}
-use Rattle.lloyd_refine.specs.Standing.{Matches}
+use Rattle.lloyd_refine.specs.Standing.{MatchesRound, Matches}
 use Rattle.lloyd_refine.specs.Pauses.{Over, Pausing}
 
 -- how many rounds are left, this one among them
@@ -46,41 +47,37 @@ pub record AtRound (j : Job) (b : Best) (t : Trained) (s : RefineState) (work : 
   pub winner : s.best_restart ≡ b.winner
 
 -- ---- some refinement stands there
-pub record ReadyRound (p : FibQuantProfile) (samples : List Float) (slots : ℕ) (work : List Float) (ints : List ℕ)
-    (s : RefineState) : Type 0 where
+pub record ReadyRound (terms : RefineTerms) (work : List Float) (ints : List ℕ) (s : RefineState) : Type 0 where
   pub job : Job
   pub b : Best
   pub t : Trained
-  pub matches : Matches job p job.initial samples job.matrices slots
+  pub matches : MatchesRound job terms
   pub standing : AtRound job b t s work ints
-  pub below : s.iteration < p.lloyd_iterations
+  pub below : s.iteration < terms.given.profile.lloyd_iterations
 
-pub record ReadyOver (p : FibQuantProfile) (initial samples matrices : List Float) (slots : ℕ) (work : List Float)
-    (ints : List ℕ) (s : RefineState) : Type 0 where
+pub record ReadyOver (terms : RefineTerms) (work : List Float) (ints : List ℕ) (s : RefineState) : Type 0 where
   pub job : Job
   pub events : List LloydRepairEvent
-  pub matches : Matches job p initial samples matrices slots
+  pub matches : Matches job terms
   pub over : Over job events work ints s
 
-pub record ReadyEnd (p : FibQuantProfile) (initial samples matrices : List Float) (slots : ℕ) (work : List Float)
-    (ints : List ℕ) (s : RefineState) : Type 0 where
+pub record ReadyEnd (terms : RefineTerms) (work : List Float) (ints : List ℕ) (s : RefineState) : Type 0 where
   pub job : Job
   pub b : Best
   pub t : Trained
-  pub matches : Matches job p initial samples matrices slots
+  pub matches : Matches job terms
   pub standing : AtRound job b t s work ints
-  pub last : s.iteration ≡ p.lloyd_iterations
+  pub last : s.iteration ≡ terms.given.profile.lloyd_iterations
 
-pub record ReadyPause (p : FibQuantProfile) (initial samples matrices : List Float) (slots : ℕ) (work : List Float)
-    (ints : List ℕ) (q : Pause) : Type 0 where
+pub record ReadyPause (terms : RefineTerms) (work : List Float) (ints : List ℕ) (q : Pause) : Type 0 where
   pub job : Job
   pub events : List LloydRepairEvent
-  pub matches : Matches job p initial samples matrices slots
+  pub matches : Matches job terms
   pub stands : Pausing job events work ints (Ok q)
 
-pub record ReadyJob (p : FibQuantProfile) (initial samples matrices : List Float) (slots floats integers : ℕ) : Type 0 where
+pub record ReadyJob (terms : RefineTerms) (floats integers : ℕ) : Type 0 where
   pub job : Job
-  pub matches : Matches job p initial samples matrices slots
+  pub matches : Matches job terms
   pub checked : refine_checks job ≡ completed tt
   pub float_work : floats ≡ job.float_work
   pub integer_work : integers ≡ job.integer_work

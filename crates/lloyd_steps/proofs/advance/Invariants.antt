@@ -19,7 +19,7 @@ turns_left p (RoundOver s) = suc (rounds_left p s)
 turns_left p (At x) = 0
 
 abbrev pub invariant-loop-pause : goal.invariant-loop-pause
-invariant-loop-pause l = (length l.work ≡ length l.initial.work) × (length l.ints ≡ length l.initial.ints) × ((j : Job) (events : List LloydRepairEvent) → Matches j l.profile l.initial' l.samples l.matrices l.slots → Pausing j events l.initial.work l.initial.ints (Ok l.initial.pause) → Pausing j events l.work l.ints (Ok l.pause))
+invariant-loop-pause l = (length l.work ≡ length l.initial.work) × (length l.ints ≡ length l.initial.ints) × ((j : Job) (events : List LloydRepairEvent) → Matches j l.terms → Pausing j events l.initial.work l.initial.ints (Ok l.initial.pause) → Pausing j events l.work l.ints (Ok l.pause))
 
 abbrev pub decreases-loop-pause : goal.decreases-loop-pause
-decreases-loop-pause l = turns_left l.profile l.pause
+decreases-loop-pause l = turns_left l.terms.given.profile l.pause

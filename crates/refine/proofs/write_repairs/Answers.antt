@@ -18,7 +18,7 @@ loop-step-preserved c = λ j same k f i.
       progress = c.in_ok-step-in-Made.ensures j t.events same going;
       is_used = ap (λ (k : ℕ). k + 1) t.is_used ∙ sym (length_more t.events e);
       is_log = c.put_event.ensures ∙ ap (λ (z : List LloydRepairEvent). set z l.used e) t.is_log ∙ ap (λ (k : ℕ). set (logged t.events slots) k e) t.is_used
-          ∙ log_more t.events slots e (subst (λ (k : ℕ). length t.events < k) same.slots going.room);
+          ∙ log_more t.events slots e (subst (λ (k : ℕ). length t.events < k) (same.round.slots ∙ sym c.requires.slots) going.room);
     }
 
 pub returns-in-Done : goal.returns-in-Done

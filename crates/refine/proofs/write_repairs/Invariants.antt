@@ -16,7 +16,7 @@ pub record Turn (j : Job) (slots₀ : List LloydRepairEvent) (work : List Float)
   pub is_log : slots ≡ logged events slots₀
 
 abbrev pub invariant-loop-step : goal.invariant-loop-step
-invariant-loop-step l = (j : Job) → Matches j l.profile l.fn.initial l.samples l.matrices (length l.fn.events) → refine_checks j ≡ completed tt → length l.fn.work ≡ j.float_work → length l.fn.ints ≡ j.integer_work → Turn j l.fn.events l.work l.ints l.events l.used l.step
+invariant-loop-step l = (j : Job) → Matches j l.terms → refine_checks j ≡ completed tt → length l.fn.work ≡ j.float_work → length l.fn.ints ≡ j.integer_work → Turn j l.fn.events l.work l.ints l.events l.used l.step
 
 abbrev pub decreases-loop-step : goal.decreases-loop-step
-decreases-loop-step l = l.slots - l.used
+decreases-loop-step l = l.terms.slots - l.used
