@@ -11,6 +11,7 @@ ghost use Rattle.codebook.specs.Codebook.{codeword_alone, codewords_alone};
 use error::{Refusal, Slice};
 
 // Public only for the crates above: k values from `at` on, widened, to the places of the output from `to` on.
+#[tactic(auto, using(slices::proofs::ListLaw::patched_more), unfolding(slices::specs::Lists::patched))]
 pub fn widen_row(codewords: &[f32], at: usize, k: usize, output: &mut [f64], to: usize)
     requires { (at + k ≤ length codewords.now) × (to + k ≤ length output.old) }
     ensures { output.new
@@ -61,11 +62,5 @@ pub fn check_codewords(codewords: &[f32], codebook_size: u64, block_dim: u64) ->
     if !lloyd_search::codebook_shaped(codebook_size, block_dim, codewords.len()) {
         return Err(Refusal::SliceLength(Slice::Codewords));
     }
-    if let Some(place) = slices::first_not_finite(codewords) {
-        return Err(Refusal::OutOfBounds {
-            slice: Slice::Codewords,
-            place: place as u64,
-        });
-    }
-    Ok(())
+    slices::check_finite(codewords, Slice::Codewords)
 }

@@ -4,9 +4,8 @@ use Prim.Native.Nat.{ℕ, ◌*◌, ◌/◌}
 use lib.ListN.{length}
 use lib.Ieee.{Float}
 use borrow.Author.Tests.{eq-eqb}
-use Rattle.error.specs.declared.Refusal.{Refusal}
-use Rattle.error.specs.Numbers.{Outcome, completed, refusal}
-use Rattle.error.proofs.Refusals.{also_refused, also_then}
+use Rattle.error.specs.Numbers.{Outcome, completed}
+use Rattle.error.proofs.Refusals.{also_then}
 use Rattle.bitpack.specs.Layout.{padding_from}
 use Rattle.compact.specs.Frame.{Parts, parsed}
 use Rattle.profile.specs.Checks.{validity}
@@ -38,10 +37,6 @@ module _ (c : DecodeCall) (parts : Parts) where
   module _ (v : Passes ≡ completed tt) where
     module _ (s : Sizes ≡ completed tt) where
       module _ (b : Bounds ≡ completed tt) where
-        pub read_unindexed : (r : Refusal) → Indices ≡ refusal r → readable c parts ≡ refusal r
-        unfolding readable
-        read_unindexed r h = also_then Passes _ v ∙ also_then Sizes _ s ∙ also_then Bounds _ b ∙ also_refused Indices _ r h
-
         pub read_norm : Indices ≡ completed tt → readable c parts ≡ norm_value parts.norm
         unfolding readable
         read_norm h = also_then Passes _ v ∙ also_then Sizes _ s ∙ also_then Bounds _ b ∙ also_then Indices _ h

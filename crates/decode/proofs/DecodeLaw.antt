@@ -13,7 +13,9 @@ use borrow.Author.Tests.{lt-ltb, le-ltb, eq-eqb}
 use Rattle.error.specs.Numbers.{completed, refused, whole}
 use Rattle.slices.proofs.FirstLaw.{nowhere, at_first}
 use Rattle.bitpack.specs.Answers.{unpackable}
-use Rattle.bitpack.specs.Layout.{bytes_for, index_at, unpacked_indices}
+use Rattle.bitpack.specs.Layout.{bytes_for}
+use Rattle.bitpack.specs.declared.packed.PackedIndices.{PackedIndices}
+use Rattle.bitpack.specs.Packed.{index_in, indices_in}
 use Rattle.bitpack.proofs.Checks.{size_is}
 use Rattle.bitpack.proofs.Packing.{length-unpacked, unpacked_index}
 use Rattle.compact.specs.Frame.{Parts, parsed}
@@ -29,21 +31,22 @@ unfolding rotated_at
 rotated_row k codewords indices i j h = rw (digits_div i h, digits_mod i h)
 
 -- ---- the indices of a packing, one after another
-module _ (bytes : List ℕ) (count w n : ℕ) where
+module _ (packed : PackedIndices) (n : ℕ) where
   -- index i is not below n
   abbrev pub fails : ℕ → Bool
-  fails i = not (ltb (get_or (unpacked_indices bytes count w) i 0) n)
+  fails i = not (ltb (get_or (indices_in packed) i 0) n)
 
-  pub index_passes : (i : ℕ) → i < count → index_at bytes w i < n → fails i ≡ false
-  index_passes i l h = rw (unpacked_index bytes count w i l, lt-ltb (index_at bytes w i) n h)
+  pub index_passes : (i : ℕ) → i < packed.count → index_in packed i < n → fails i ≡ false
+  index_passes i l h = rw (unpacked_index packed.bytes.now packed.count packed.width i l, lt-ltb (index_in packed i) n h)
 
-  pub below_none : ((i : ℕ) → i < count → fails i ≡ false) → below n (unpacked_indices bytes count w) ≡ completed tt
-  below_none h = rw (length-unpacked bytes count w, nowhere fails count h)
+  pub below_none : ((i : ℕ) → i < packed.count → fails i ≡ false) → below n (indices_in packed) ≡ completed tt
+  below_none h = rw (length-unpacked packed.bytes.now packed.count packed.width, nowhere fails packed.count h)
 
-  pub below_first : (i : ℕ) → i < count → ((j : ℕ) → j < i → fails j ≡ false) → n ≤ index_at bytes w i → below n (unpacked_indices bytes count w) ≡ refused 11 (whole (index_at bytes w i) ∷ whole n ∷ [])
+  pub below_first : (i : ℕ) → i < packed.count → ((j : ℕ) → j < i → fails j ≡ false) → n ≤ index_in packed i
+      → below n (indices_in packed) ≡ refused 11 (whole (index_in packed i) ∷ whole n ∷ [])
   below_first i l h k =
-      let f : fails i ≡ true = rw (unpacked_index bytes count w i l, le-ltb (index_at bytes w i) n k) in
-      rw (length-unpacked bytes count w, at_first fails count i l h f, unpacked_index bytes count w i l)
+      let f : fails i ≡ true = rw (unpacked_index packed.bytes.now packed.count packed.width i l, le-ltb (index_in packed i) n k) in
+      rw (length-unpacked packed.bytes.now packed.count packed.width, at_first fails packed.count i l h f, unpacked_index packed.bytes.now packed.count packed.width i l)
 
 -- a frame that has passed 8 and 17 under a valid profile:
 -- `unpackable`, bitpack's own answer, refuses it by its padding only

@@ -1,16 +1,16 @@
--- A buffer that is filled part after part, and its first half; a search that sees its tests only. Assumes nothing.
+-- A buffer that is filled part after part, until it is filled; a search that sees its tests only. Assumes nothing.
 use mathlib.Core.Path.{◌≡◌, refl, sym, ap, ◌∙◌}
-use Prim.Native.Nat.{ℕ, zero, suc, ◌+◌, ◌≤◌, ◌<◌}
+use Prim.Native.Nat.{ℕ, zero, suc, ◌+◌, ◌<◌}
 use native.Mathlib.Nat.{add-suc, zero-add, add-zero, le_trans, le-suc}
 use native.Mathlib.Omega.{arith}
 use mathlib.Core.Bool.{Bool}
 use mathlib.Core.List.{List}
-use lib.ListN.{length, get_or, take}
-use lib.Seq.{ext_get_or, get_or-take, length-take-le}
+use lib.ListN.{length, get_or}
+use lib.Ieee.{Float, nan}
 use Rattle.slices.specs.First.{first_where}
 use Rattle.slices.specs.Lists.{tabulate, patched}
-use Rattle.slices.proofs.ListLaw.{length-patched, patched_inside}
-use Rattle.slices.proofs.TabulateLaw.{length-tabulate, get_d_tabulate}
+use Rattle.slices.proofs.ListLaw.{patched_all}
+use Rattle.slices.proofs.TabulateLaw.{tabulate_is}
 
 pub first_where_ext : (t u : ℕ → Bool) (n : ℕ) → ((i : ℕ) → i < n → t i ≡ u i) → first_where t n ≡ first_where u n
 unfolding first_where
@@ -24,11 +24,11 @@ module _ {A : Type 0} where
   patched_then xs n zero f g h = rw (add-zero n)
   patched_then xs n (suc m) f g h = rw (add-suc, patched_then xs n m f g (λ j l. h j (le_trans l (le-suc m))), h m (omega arith), zero-add)
 
-  -- the first n places
-  pub take-patched : (xs : List A) (n : ℕ) (f : ℕ → A) (d : A) → n ≤ length xs → take n (patched xs 0 n f) ≡ tabulate n f
-  take-patched xs n f d h =
-      let L = length-patched xs 0 n f in
-      let T : length (take n (patched xs 0 n f)) ≡ n = length-take-le n (patched xs 0 n f) (omega arith) in
-      ext_get_or d (take n (patched xs 0 n f)) (tabulate n f) (T ∙ sym (length-tabulate n f))
-      (λ i l. let b : i < n = omega arith in
-      get_or-take n (patched xs 0 n f) i d b ∙ ap (λ (z : ℕ). get_or (patched xs 0 n f) z d) (sym (zero-add i)) ∙ patched_inside xs 0 n f i d (omega arith) b ∙ sym (get_d_tabulate n f i d b))
+-- every place written: the values that stand there
+pub all_written : (xs s : List Float) (i : ℕ) (f : ℕ → Float) → s ≡ patched xs 0 i f → i ≡ length xs → s ≡ tabulate (length xs) f
+all_written xs s i f h e = h ∙ ap (λ (n : ℕ). patched xs 0 n f) e ∙ patched_all xs f nan
+
+-- and where these are another list's, that list
+pub all_copied : (xs s l : List Float) (i : ℕ) → s ≡ patched xs 0 i (λ j. get_or l j nan) → i ≡ length xs → length l ≡ length xs → s ≡ l
+all_copied xs s l i h e k =
+    all_written xs s i (λ j. get_or l j nan) h e ∙ ap (λ (n : ℕ). tabulate n (λ j. get_or l j nan)) (sym k) ∙ sym (tabulate_is nan l (λ j. get_or l j nan) (λ j m. refl))

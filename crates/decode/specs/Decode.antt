@@ -16,6 +16,7 @@ use Rattle.profile.specs.Checks.{validity}
 use Rattle.rotation.specs.Apply.{applied_inverse}
 use Rattle.lloyd_search.specs.Distance.{row_of}
 use Rattle.norm.specs.Norm.{norm_value}
+use Rattle.decode.specs.declared.FibQuantizer.{FibQuantizer}
 
 -- ---- what a decoding is given, but the contents of the buffers that it writes; of these the lengths
 pub record DecodeCall : Type 0 where
@@ -42,6 +43,12 @@ decode_call profile schema algorithm log2 matrix codewords bytes output work = r
   output = output;
   work = work;
 }
+
+-- the same of a quantiser as it is handed in
+abbrev pub decode_call_of : FibQuantizer → List ℕ → ℕ → ℕ → DecodeCall
+decode_call_of q bytes output work =
+    let g = q.given in
+    decode_call g.profile g.schema.now g.rotation_algorithm.now g.log2 q.matrix.now q.codewords.now bytes output work
 
 -- ---- what indices and norm stand for
 

@@ -2,20 +2,22 @@
 use mathlib.Core.Path.{◌≡◌, sym, ap, ◌∙◌}
 use Prim.Native.Nat.{ℕ, ◌*◌, ◌^◌, ◌≤◌}
 use native.Mathlib.Omega.{arith}
+use mathlib.Core.List.{List}
 use lib.ListN.{length}
+use lib.Ieee.{Float}
 use Rattle.error.specs.Numbers.{completed}
 use Rattle.error.proofs.Refusals.{also_first, also_next}
 use Rattle.profile.specs.declared.FibQuantProfile.{FibQuantProfile}
 use Rattle.profile.specs.Valid.{Valid}
 use Rattle.profile.proofs.Facts as profile-facts
 use Rattle.profile.proofs.Width.{least_width}
-use Rattle.lloyd_search_f32.specs.Finite.{FiniteValues}
 use Rattle.lloyd_search.proofs.LimitLaw.{passed_bounded}
 use Rattle.slices.specs.Limit.{first_not_finite}
 use Rattle.slices.proofs.FirstLaw.{all_finite}
+use Rattle.decode.specs.declared.FibQuantizer.{FibQuantizer}
 use Rattle.decode.specs.Decode.{values}
 use Rattle.decode.proofs.AcceptLaw.{passed_length}
-use Rattle.encode.specs.Encode.{EncodeCall, frame_length, fitting}
+use Rattle.encode.specs.Encode.{EncodeCall, encode_call_of, frame_length, fitting}
 use Rattle.encode.specs.Work.{Writable}
 use Rattle.encode.proofs.CheckLaw.{Passes, Sizes}
 
@@ -60,27 +62,24 @@ indices_fit p v =
     let b = v.shape.book_least in
     rw v.width (omega arith)
 
--- what the search asks of the codewords follows from the checks
-pub codewords_finite : (c : EncodeCall) → Fitting c → FiniteValues c.codewords
-unfolding values
-codewords_finite c q = all_finite c.codewords (passed_bounded 4 (first_not_finite c.codewords) _ tt q.values_pass).0
-
 -- what the work asks follows from the checks
-pub writable : (c : EncodeCall) → Fitting c → Writable c.profile (length c.matrix) (length c.codewords) (length c.input) c.output c.work
-writable c q =
-    let v = q.valid in
+pub writable : (q : FibQuantizer) (input : List Float) (output work : ℕ) → fitting (encode_call_of q input output work) ≡ completed tt → Writable q (length input) output work
+unfolding values
+writable q input output work e =
+    let f = fitting_accepted (encode_call_of q input output work) e in
+    let v = f.valid in
     let s = v.shape in
-    let i = q.input_length in
+    let i = f.input_length in
     record {
       some_block = s.some_block;
       whole = i;
       blocks = i ∙ s.whole_blocks;
-      square = q.matrix_length ∙ ap (λ (z : ℕ). z * z) (sym i);
-      halves = omega (arith, q.work_length);
-      book = q.codewords_length;
+      square = f.matrix_length ∙ ap (λ (z : ℕ). z * z) (sym i);
+      halves = omega (arith, f.work_length);
+      book = f.codewords_length;
+      book_finite = all_finite q.codewords.now (passed_bounded 4 (first_not_finite q.codewords.now) _ tt f.values_pass).0;
       some = omega (arith, s.book_least);
-      fits = indices_fit c.profile v;
-      most = s.book_most;
+      fits = indices_fit q.given.profile v;
       narrow = v.width_most;
-      room = q.output_length;
+      room = f.output_length;
     }

@@ -20,6 +20,7 @@ use Rattle.lloyd_search.specs.Distance.{row_of}
 use Rattle.lloyd_search.specs.Nearest.{nearest, tied}
 use Rattle.slices.specs.Limit.{first_not_finite}
 use Rattle.norm.specs.Norm.{norm_bits}
+use Rattle.decode.specs.declared.FibQuantizer.{FibQuantizer}
 use Rattle.decode.specs.Decode.{values}
 
 -- ---- what an encoding is given, but the contents of the buffers that it writes; of these the lengths
@@ -47,6 +48,12 @@ encode_call profile schema algorithm log2 matrix codewords input output work = r
   output = output;
   work = work;
 }
+
+-- the same of a quantiser as it is handed in
+abbrev pub encode_call_of : FibQuantizer → List Float → ℕ → ℕ → EncodeCall
+encode_call_of q input output work =
+    let g = q.given in
+    encode_call g.profile g.schema.now g.rotation_algorithm.now g.log2 q.matrix.now q.codewords.now input output work
 
 -- ---- what is written
 

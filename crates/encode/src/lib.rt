@@ -3,51 +3,55 @@
 // The entry point is `encode`, at the end.
 #![tactic(auto)]
 
+mod search;
+
 ghost use Rattle.std.specs.Prelude.{count_by, ◌≡◌, cond, ◌++◌, ◌+◌, ◌*◌, ◌/◌, ◌≤◌, ◌<◌, length, get_or, drop, replicate};
 ghost use Rattle.std.specs.Float.{nan, binary32};
 ghost use Rattle.error.specs.Numbers.{outcome, if_completed, contents};
 ghost use Rattle.ieee.specs.Sum.{plus_zero};
-ghost use Rattle.slices.specs.First.{count_where};
-ghost use Rattle.slices.specs.Lists.{patched};
+ghost use Rattle.slices.specs.Lists.{tabulate};
 ghost use Rattle.narrow.specs.Pack.{narrow_to};
-ghost use Rattle.bitpack.specs.Layout.{packed_bit, packed_bytes};
+ghost use Rattle.bitpack.specs.Layout.{bytes_for, packed_bit, packed_bytes};
 ghost use Rattle.bitpack.specs.Cursor.{WriterAt};
 ghost use Rattle.compact.specs.Frame.{bytes_of, header, frame_of};
 ghost use Rattle.lloyd_search.specs.Choice.{mark_of};
-ghost use Rattle.lloyd_search_f32.specs.Finite.{FiniteValues};
-ghost use Rattle.encode.specs.Encode.{encode_call, norm_of, normalized_at, indices_for, frame_for, tied_for, tied_blocks, lengths, normed, fitting, encoding, counting};
-ghost use Rattle.encode.specs.Work.{Searchable, Writable};
+ghost use Rattle.encode.specs.Encode.{encode_call_of, norm_of, normalized_at, frame_for, tied_blocks, lengths, normed, fitting, encoding, counting};
+ghost use Rattle.encode.specs.Search.{indices_of, tied_of};
+ghost use Rattle.encode.specs.Work.{Writable};
 
 use bitpack::BitWriter;
+use decode::FibQuantizer;
 use error::{Refusal, Slice};
-use lloyd_search::Choice;
-use profile::FibQuantProfile;
+use lloyd_search::{Choice, Codewords};
+use search::Search;
 
 // The lengths of matrix, codewords, input, output and float work.
+// Kept: beside the decoder's, since the input is tested between slices that both test, and the order is document 01's.
 fn check_lengths(
-    d: usize,
-    k: usize,
-    n: usize,
-    bits: usize,
-    matrix: usize,
-    codewords: usize,
+    quantizer: FibQuantizer<'_>,
     input: usize,
     output: usize,
     work: usize,
 ) -> Result<(), Refusal>
-    requires { (d ≤ 4096) × (n * k ≤ 67108864) × (1 ≤ k) × (bits ≤ 20) }
-    ensures { outcome result ≡ lengths d k n bits matrix codewords input output work }
+    requires { 1 ≤ quantizer.given.profile.block_dim }
+    ensures { let q = quantizer.entry in
+        let p = q.given.profile in
+        outcome result ≡ lengths p.ambient_dim p.block_dim p.codebook_size p.wire_index_bits
+        (length q.matrix.now) (length q.codewords.now) input output work }
 {
-    if matrix != d * d {
+    let profile = quantizer.given.profile;
+    let d = profile.ambient_dim as usize;
+    let k = profile.block_dim as usize;
+    if quantizer.matrix.len() != d * d {
         return Err(Refusal::SliceLength(Slice::Matrix));
     }
-    if codewords != n * k {
+    if quantizer.codewords.len() != profile.codebook_size as usize * k {
         return Err(Refusal::SliceLength(Slice::Codewords));
     }
     if input != d {
         return Err(Refusal::SliceLength(Slice::Input));
     }
-    if output != 13 + (d / k * bits + 7) / 8 {
+    if output != 13 + (d / k * profile.wire_index_bits as usize + 7) / 8 {
         return Err(Refusal::SliceLength(Slice::Output));
     }
     if work != 2 * d {
@@ -83,65 +87,44 @@ fn check_norm(input: &[f32], norm: f64) -> Result<u16, Refusal>
 }
 
 // The checks that do not read the input: of the profile, the lengths, and the values of codewords and matrix.
-#[tactic(auto, unfolding(crate::specs::Encode::fitting))]
+#[tactic(auto, unfolding(crate::specs::Encode::fitting), using(profile::proofs::Facts::valid))]
 fn check_call(
-    profile: FibQuantProfile,
-    schema: &[u8],
-    rotation_algorithm: &[u8],
-    log2: f64,
-    matrix: &[f64],
-    codewords: &[f32],
+    quantizer: FibQuantizer<'_>,
     input: &[f32],
     output: usize,
     work: usize,
 ) -> Result<(), Refusal>
-    ensures { let c = encode_call profile schema.now rotation_algorithm.now log2
-        matrix.now codewords.now input.now output work in
-        outcome result ≡ fitting c }
+    ensures { outcome result ≡ fitting (encode_call_of quantizer.entry input.now output work) }
 {
-    profile.validate(schema, rotation_algorithm, log2)?;
-    let d = profile.ambient_dim;
-    let k = profile.block_dim;
-    let n = profile.codebook_size;
-    let bits = profile.wire_index_bits;
-    check_lengths(
-        d as usize,
-        k as usize,
-        n as usize,
-        bits as usize,
-        matrix.len(),
-        codewords.len(),
-        input.len(),
-        output,
-        work,
-    )?;
-    decode::check_values(matrix, codewords)
+    quantizer.given.validate()?;
+    check_lengths(quantizer, input.len(), output, work)?;
+    decode::check_values(quantizer)
 }
 
-// The input over its norm, widened, from the start of the work.
-fn normalize(input: &[f32], norm: f64, work: &mut [f64])
-    requires { length work.old ≡ length input.now + length input.now }
-    ensures { work.new
-        ≡ patched work.old 0 (length input.now) (normalized_at input.now norm) }
+// The input over its norm, widened.
+#[tactic(auto, using(slices::proofs::ListLaw::patched_more), unfolding(slices::specs::Lists::patched, crate::specs::Encode::normalized_at))]
+fn normalize(input: &[f32], norm: f64, output: &mut [f64])
+    requires { length output.old ≡ length input.now }
+    ensures { output.new ≡ tabulate (length output.old) (normalized_at input.now norm) }
 {
     for (i, x) in input.iter().enumerate() {
-        work[i] = narrow::f32_to_f64(*x) / norm;
+        output[i] = narrow::f32_to_f64(*x) / norm;
     }
 }
 
-// Each value of the second half of the work, rounded to binary32.
-fn round_half(work: &mut [f64], d: usize)
-    requires { length work.old ≡ d + d }
-    ensures { work.new
-        ≡ patched work.old d d (λ i. narrow_to binary32 (get_or work.old (d + i) nan)) }
+// Each value, rounded to binary32.
+#[tactic(auto, unfolding(slices::specs::Lists::patched))]
+fn round(values: &mut [f64])
+    ensures { values.new
+        ≡ tabulate (length values.old) (λ i. narrow_to binary32 (get_or values.old i nan)) }
 {
-    for i in 0..d {
-        let x = narrow::f64_to_f32(work[d + i]);
-        work[d + i] = narrow::f32_to_f64(x);
+    for value in values.iter_mut() {
+        *value = narrow::f32_to_f64(narrow::f64_to_f32(*value));
     }
 }
 
 // 1 where another codeword is as near as the one chosen, else 0.
+// Kept: beside `count_four`, which an array of one choice would walk for a single test.
 fn count_one(choice: Choice) -> usize
     ensures { result ≡ cond (mark_of choice) 1 0 }
 {
@@ -164,181 +147,139 @@ struct Blocks {
     tied_blocks: usize,
 }
 
-// The packed indices of the whole fours of blocks, four searched at once so that a codeword is widened once for them.
-fn write_fours(
-    codewords: &[f32],
-    n: usize,
-    k: usize,
-    count: usize,
-    width: u8,
-    values: &[f64],
-    output: &mut [u8],
-) -> Blocks
-    requires { (Searchable count k n width (length values.now) (length codewords.now) (length output.old))
-        × FiniteValues codewords.now }
-    ensures { WriterAt (packed_bit (indices_for count k n codewords.now values.now) width)
-        (count / 4 * 4 * width) output.old output.new result.writer
-        × (result.tied_blocks ≡ count_where (tied_for k n codewords.now values.now) (count / 4 * 4)) }
-{
-    let mut writer = BitWriter::new();
-    let mut tied_blocks = 0usize;
-    for turn in 0..count / 4 {
-        let at = turn * 4 * k;
-        let found = lloyd_search_f32::search_four_f32(codewords, n, k, &values[at..at + 4 * k]);
-        writer = writer.push(found[0].found.index as u32, width, output);
-        writer = writer.push(found[1].found.index as u32, width, output);
-        writer = writer.push(found[2].found.index as u32, width, output);
-        writer = writer.push(found[3].found.index as u32, width, output);
-        tied_blocks = tied_blocks + count_four(found);
-    }
-    Blocks {
-        writer,
-        tied_blocks,
-    }
-}
-
-// The packed indices of the codewords that are nearest to the blocks. Returns for how many blocks another was as near.
-fn write_indices(
-    codewords: &[f32],
-    n: usize,
-    k: usize,
-    count: usize,
-    width: u8,
-    values: &[f64],
-    output: &mut [u8],
-) -> usize
-    requires { (Searchable count k n width (length values.now) (length codewords.now) (length output.old))
-        × FiniteValues codewords.now }
-    ensures { (output.new
-        ≡ packed_bytes (indices_for count k n codewords.now values.now) width)
-        × (result ≡ count_where (tied_for k n codewords.now values.now) count) }
-{
-    let fours = write_fours(codewords, n, k, count, width, values, output);
-    let mut writer = fours.writer;
-    let mut tied_blocks = fours.tied_blocks;
-    for i in count / 4 * 4..count {
-        let at = i * k;
-        let choice = lloyd_search_f32::search_f32(codewords, n, &values[at..at + k]);
-        let index = choice.found.index;
-        writer = writer.push(index as u32, width, output);
-        tied_blocks = tied_blocks + count_one(choice);
-    }
-    writer.finish(output);
-    tied_blocks
-}
-
 // The first 13 bytes of a frame: the header, and the norm's pattern.
 fn write_front(width: u8, count: u32, bits: u16, output: &mut [u8])
-    requires { 13 ≤ length output.old }
-    ensures { output.new ≡ header width count 2 ++ bytes_of 2 bits ++ drop 13 output.old }
+    requires { length output.old ≡ 13 }
+    ensures { output.new ≡ header width count 2 ++ bytes_of 2 bits }
 {
-    compact::write_header(width, count, 2, output);
-    compact::write_part(&bits.to_le_bytes(), output, 11);
+    let (head, norm) = output.split_at_mut(11);
+    compact::write_header(width, count, 2, head);
+    norm.copy_from_slice(&bits.to_le_bytes());
 }
 
-// The whole frame, from the values that the search sees. Returns the number of its tied blocks.
-fn write_frame(
-    codewords: &[f32],
-    n: usize,
-    k: usize,
-    count: u32,
-    width: u8,
-    bits: u16,
-    values: &[f64],
-    output: &mut [u8],
-) -> usize
-    requires { (Searchable count k n width (length values.now) (length codewords.now)
-        (length (drop 13 output.old))) × (13 ≤ length output.old) × FiniteValues codewords.now }
-    ensures { (output.new ≡ frame_of width count (bytes_of 2 bits)
-        (packed_bytes (indices_for count k n codewords.now values.now) width))
-        × (result ≡ count_where (tied_for k n codewords.now values.now) count) }
-{
-    write_front(width, count, bits, output);
-    write_indices(
-        codewords,
-        n,
-        k,
-        count as usize,
-        width,
-        values,
-        &mut output[13..],
-    )
+impl Search<'_, '_> {
+    // The packed indices of the whole fours of blocks, four searched at once so that a codeword is widened once for them.
+    fn write_fours(self, output: &mut [u8]) -> Blocks
+        requires { length output.old ≡ bytes_for (self.count * self.width) }
+        ensures { let s = self.entry in
+            WriterAt (packed_bit (indices_of s) s.width)
+            (s.count / 4 * 4 * s.width) output.old output.new result.writer
+            × (result.tied_blocks ≡ tied_of s (s.count / 4 * 4)) }
+    {
+        let k = self.codewords.dim;
+        let mut writer = BitWriter::new();
+        let mut tied_blocks = 0usize;
+        for turn in 0..self.count as usize / 4 {
+            let at = turn * 4 * k;
+            let found = lloyd_search_f32::search_four_f32(
+                self.codewords,
+                &self.values[at..at + 4 * k],
+            );
+            writer.push(found[0].found.index as u32, self.width, output);
+            writer.push(found[1].found.index as u32, self.width, output);
+            writer.push(found[2].found.index as u32, self.width, output);
+            writer.push(found[3].found.index as u32, self.width, output);
+            tied_blocks = tied_blocks + count_four(found);
+        }
+        Blocks {
+            writer,
+            tied_blocks,
+        }
+    }
+
+    // The packed indices of the codewords that are nearest to the blocks. Returns for how many blocks another was as near.
+    fn write_indices(self, output: &mut [u8]) -> usize
+        requires { length output.old ≡ bytes_for (self.count * self.width) }
+        ensures { let s = self.entry in
+            (output.new ≡ packed_bytes (indices_of s) s.width)
+            × (result ≡ tied_of s s.count) }
+    {
+        let k = self.codewords.dim;
+        let count = self.count as usize;
+        let fours = self.write_fours(output);
+        let mut writer = fours.writer;
+        let mut tied_blocks = fours.tied_blocks;
+        for i in count / 4 * 4..count {
+            let at = i * k;
+            let choice = self.codewords.search(&self.values[at..at + k]);
+            let index = choice.found.index;
+            writer.push(index as u32, self.width, output);
+            tied_blocks = tied_blocks + count_one(choice);
+        }
+        writer.finish(output);
+        tied_blocks
+    }
+
+    // The whole frame. Returns the number of its tied blocks.
+    fn write_frame(self, bits: u16, output: &mut [u8]) -> usize
+        requires { length output.old ≡ 13 + bytes_for (self.count * self.width) }
+        ensures { let s = self.entry in
+            (output.new ≡ frame_of s.width s.count (bytes_of 2 bits) (packed_bytes (indices_of s) s.width))
+            × (result ≡ tied_of s s.count) }
+    {
+        let (front, indices) = output.split_at_mut(13);
+        write_front(self.width, self.count, bits, front);
+        self.write_indices(indices)
+    }
 }
 
-// The frame of an input whose norm and its pattern are known. Returns the number of its tied blocks. The work is zeroed.
+// The frame of an input whose norm and its pattern are known. Returns the number of its tied blocks.
+// The first half of the work takes the input over its norm, the second what it is rotated to. The work is zeroed.
 fn write_code(
-    profile: FibQuantProfile,
-    matrix: &[f64],
-    codewords: &[f32],
+    quantizer: FibQuantizer<'_>,
     input: &[f32],
     norm: f64,
     bits: u16,
     output: &mut [u8],
     work: &mut [f64],
 ) -> u32
-    requires { (Writable profile (length matrix.now) (length codewords.now) (length input.now)
-        (length output.old) (length work.old)) × FiniteValues codewords.now × (norm ≡ norm_of input.now) }
-    ensures { (output.new
-        ≡ frame_for profile matrix.now codewords.now input.now bits)
+    requires writable { Writable quantizer (length input.now) (length output.old) (length work.old) }
+    requires norm { norm ≡ norm_of input.now }
+    ensures { let q = quantizer.entry in
+        let p = q.given.profile in
+        (output.new ≡ frame_for p q.matrix.now q.codewords.now input.now bits)
         × (work.new ≡ replicate (length work.old) plus_zero)
-        × (result ≡ tied_blocks profile matrix.now codewords.now input.now) }
+        × (result ≡ tied_blocks p q.matrix.now q.codewords.now input.now) }
 {
-    let d = input.len();
-    let k = profile.block_dim;
-    let n = profile.codebook_size;
-    let width = profile.wire_index_bits;
-    let count = profile.ambient_dim / k;
-    normalize(input, norm, work);
-    rotation::rotate_within(matrix, work, d);
-    round_half(work, d);
-    let tied_blocks = write_frame(
+    let profile = quantizer.given.profile;
+    let codewords = Codewords {
+        values: quantizer.codewords,
+        count: profile.codebook_size as usize,
+        dim: profile.block_dim as usize,
+    };
+    let (vector, rotated) = work.split_at_mut(input.len());
+    normalize(input, norm, vector);
+    rotation::rotate(quantizer.matrix, vector, rotated);
+    round(rotated);
+    let search = Search {
         codewords,
-        n as usize,
-        k as usize,
-        count,
-        width,
-        bits,
-        &work[d..],
-        output,
-    );
+        values: rotated,
+        count: profile.ambient_dim / profile.block_dim,
+        width: profile.wire_index_bits,
+    };
+    let tied_blocks = search.write_frame(bits, output);
     slices::zero_f64(work);
     tied_blocks as u32
 }
 
 // The frame of a vector: its norm, and for each block the index of the nearest codeword. Returns for how many blocks
-// another codeword was as near as the one chosen. A refusal leaves both buffers as they were. An input of the wrong length is refused before any of it is read.
-#[tactic(auto, unfolding(crate::specs::Encode::codable))]
+// another codeword was as near as the one chosen. A refusal leaves both buffers as they were. An input of the wrong
+// length is refused before any of it is read.
+#[tactic(auto, using(crate::proofs::AcceptLaw::writable), unfolding(crate::specs::Encode::codable))]
 pub fn encode(
-    profile: FibQuantProfile,
-    schema: &[u8],
-    rotation_algorithm: &[u8],
-    log2: f64,
-    matrix: &[f64],
-    codewords: &[f32],
+    quantizer: FibQuantizer<'_>,
     input: &[f32],
     output: &mut [u8],
     work: &mut [f64],
 ) -> Result<u32, Refusal>
-    ensures { let c = encode_call profile schema.now rotation_algorithm.now log2
-        matrix.now codewords.now input.now
-        (length output.old) (length work.old) in
+    ensures { let c = encode_call_of quantizer.entry input.now (length output.old) (length work.old) in
         (outcome result ≡ counting c)
         × (output.new ≡ contents (encoding c) output.old)
         × (work.new ≡ if_completed (encoding c)
         (replicate (length work.old) plus_zero) work.old) }
 {
-    check_call(
-        profile,
-        schema,
-        rotation_algorithm,
-        log2,
-        matrix,
-        codewords,
-        input,
-        output.len(),
-        work.len(),
-    )?;
+    check_call(quantizer, input, output.len(), work.len())?;
     let norm = l2_norm(input);
     let bits = check_norm(input, norm)?;
-    Ok(write_code(profile, matrix, codewords, input, norm, bits, output, work))
+    Ok(write_code(quantizer, input, norm, bits, output, work))
 }

@@ -7,7 +7,9 @@ ghost use Rattle.encode.specs.Encode.{encode_call, encoding, counting};
 ghost use Rattle.ffi_profile.specs.Profiles.{profile_from};
 ghost use Rattle.ffi_crossing.specs.Crossing.{found, crossed, none, one_whole};
 
+use decode::FibQuantizer;
 use ffi_crossing::put_answer;
+use profile::GivenProfile;
 
 // The frame of a vector into `output`, which must be as long as it; in whole[0] for how many of its blocks another
 // codeword is as near as the one chosen.
@@ -70,17 +72,17 @@ pub extern "C" fn fib_encode(
         training_samples,
         empty_cell_policy,
     );
-    let written = encode::encode(
-        profile,
-        schema,
-        rotation_algorithm,
-        log2,
+    let quantizer = FibQuantizer {
+        given: GivenProfile {
+            profile,
+            schema,
+            rotation_algorithm,
+            log2,
+        },
         matrix,
         codewords,
-        input,
-        output,
-        work,
-    );
+    };
+    let written = encode::encode(quantizer, input, output, work);
     put_answer(written, whole, real)
 }
 
@@ -144,16 +146,16 @@ pub extern "C" fn fib_decode(
         training_samples,
         empty_cell_policy,
     );
-    let answer = decode::decode(
-        profile,
-        schema,
-        rotation_algorithm,
-        log2,
+    let quantizer = FibQuantizer {
+        given: GivenProfile {
+            profile,
+            schema,
+            rotation_algorithm,
+            log2,
+        },
         matrix,
         codewords,
-        bytes,
-        output,
-        work,
-    );
+    };
+    let answer = decode::decode(quantizer, bytes, output, work);
     put_answer(answer, whole, real)
 }

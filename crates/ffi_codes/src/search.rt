@@ -20,6 +20,7 @@ pub extern "C" fn fib_nearest(
     ensures { found result whole.new real.new
         ≡ crossed found_in (nearest_alone codebook_size block_dim codewords.now block.now) }
 {
+    // Kept: matched here, since both the trait of what crosses and the type are other crates'.
     match lloyd_alone::nearest_index(codewords, codebook_size, block_dim, block) {
         Ok(marked) => {
             let found = marked.found;

@@ -1,2 +1,1 @@
 pub mod RowLaw
-pub mod HalfLaw

@@ -4,14 +4,14 @@
 
 mod product;
 
-ghost use Rattle.std.specs.Prelude.{◌≡◌, ◌+◌, ◌*◌, ◌<◌, ◌≤◌, ◌++◌, length, take};
+ghost use Rattle.std.specs.Prelude.{◌≡◌, ◌+◌, ◌*◌, ◌<◌, ◌≤◌, length};
 ghost use Rattle.error.specs.Numbers.{outcome, if_completed};
 ghost use Rattle.slices.specs.Lists.{filled};
 ghost use Rattle.rotation.specs.Apply.{applied, applied_inverse, shape};
 ghost use Rattle.rotation.specs.Rows.{dim, row_total, row_sums, column_total, column_sums};
 
 use error::{Refusal, Slice};
-use product::Product;
+use product::{Product, Rows};
 use profile::FibQuantProfile;
 
 // The matrix times the input.
@@ -28,6 +28,7 @@ pub fn apply(dim: u64, matrix: &[f64], input: &[f64], output: &mut [f64]) -> Res
 }
 
 // The transposed matrix times the input.
+// Kept: beside `apply`: both are a check and a call, and one function of them would switch on which is meant.
 pub fn apply_inverse(
     dim: u64,
     matrix: &[f64],
@@ -74,6 +75,9 @@ fn check_shape(dim: u64, matrix: usize, input: usize, output: usize) -> Result<(
 // `apply` for lengths already checked. Public only for the crates above.
 // Eight rows at a time, since their sums do not wait for each
 // other; the rows left over, at most seven, come one at a time.
+// Kept: that two slices have one length is asked here and wherever two are read side by side,
+// as std's copy_from_slice asks it, since a struct of both would hold this fact and nothing else.
+#[tactic(auto, unfolding(slices::specs::Lists::tabulate))]
 pub fn rotate(matrix: &[f64], input: &[f64], output: &mut [f64])
     requires matrix_len { length matrix.now ≡ length input.now * length input.now }
     requires output_len { length output.old ≡ length input.now }
@@ -85,11 +89,11 @@ pub fn rotate(matrix: &[f64], input: &[f64], output: &mut [f64])
     product.rotate_rows::<1>(output, passed);
 }
 
-// `apply_inverse` for lengths already checked.
+// `apply_inverse` for lengths already checked. Public only for the crates above.
 // Row by row into the output: the memory is read in order, and each output still gets its terms in the order of the rows.
 // Four rows at a time, since the output is then loaded and stored
 // a quarter as often; the rows left over come one at a time.
-fn rotate_back(matrix: &[f64], input: &[f64], output: &mut [f64])
+pub fn rotate_back(matrix: &[f64], input: &[f64], output: &mut [f64])
     requires matrix_len { length matrix.now ≡ length input.now * length input.now }
     requires output_len { length output.old ≡ length input.now }
     ensures { output.new
@@ -116,35 +120,11 @@ impl Product<'_> {
         let blocks = (self.input.len() - first) / N;
         for block in 0..blocks {
             let row = first + block * N;
-            let sums = self.dot::<N>(row);
+            let rows: Rows<N> = Rows { product: self, row };
+            let sums = rows.dot();
             output[row..row + N].copy_from_slice(&sums);
         }
         first + blocks * N
-    }
-
-    // The sums of the N rows from `row` on, which do not wait for each other.
-    fn dot<const N: usize>(self, row: usize) -> [f64; N]
-        requires { row + N ≤ dim self }
-        ensures { result ≡ row_sums N self.entry row (dim self.entry) }
-    {
-        let mut sums = [0.0; N];
-        for column in 0..self.input.len() {
-            self.add_products(&mut sums, row, column);
-        }
-        sums
-    }
-
-    // Adds to each row's sum its product at this column.
-    fn add_products<const N: usize>(self, sums: &mut [f64; N], row: usize, column: usize)
-        requires rows_in_bounds { row + N ≤ dim self }
-        requires column_in_bounds { column < dim self }
-        requires sums_value { sums.old ≡ row_sums N self row column }
-        ensures { sums.new ≡ row_sums N self.entry row (column + 1) }
-    {
-        let d = self.input.len();
-        for i in 0..N {
-            sums[i] = sums[i] + self.matrix[(row + i) * d + column] * self.input[column];
-        }
     }
 
     // The rows from `first` on, N at a time, where the outputs are the sums over those before it;
@@ -159,55 +139,62 @@ impl Product<'_> {
     {
         let blocks = (self.input.len() - first) / N;
         for block in 0..blocks {
-            self.add_rows::<N>(first + block * N, output);
+            let rows: Rows<N> = Rows {
+                product: self,
+                row: first + block * N,
+            };
+            rows.add_rows(output);
         }
         first + blocks * N
     }
+}
 
-    // Adds to each output, the sum over the rows before `row`, its terms of the N rows from `row` on.
-    fn add_rows<const N: usize>(self, row: usize, output: &mut [f64])
-        requires rows_in_bounds { row + N ≤ dim self }
-        requires output_value { output.old ≡ column_sums self row }
-        ensures { output.new ≡ column_sums self.entry (row + N) }
+impl<const N: usize> Rows<'_, N> {
+    // The rows' sums, which do not wait for each other.
+    fn dot(self) -> [f64; N]
+        ensures { let p = self.entry.product in result ≡ row_sums N p self.entry.row (dim p) }
     {
-        for column in 0..output.len() {
-            output[column] = self.add_terms::<N>(row, column, output[column]);
+        let mut sums = [0.0; N];
+        for column in 0..self.product.input.len() {
+            self.add_products(&mut sums, column);
+        }
+        sums
+    }
+
+    // Adds to each row's sum its product at this column.
+    fn add_products(self, sums: &mut [f64; N], column: usize)
+        requires column_in_bounds { column < dim self.product }
+        requires sums_value { sums.old ≡ row_sums N self.product self.row column }
+        ensures { sums.new ≡ row_sums N self.entry.product self.entry.row (column + 1) }
+    {
+        let product = self.product;
+        let d = product.input.len();
+        for i in 0..N {
+            sums[i] = sums[i] + product.matrix[(self.row + i) * d + column] * product.input[column];
         }
     }
 
-    // The sum of a column over the rows before `row`, with its terms of the N rows from `row` on added in order.
-    fn add_terms<const N: usize>(self, row: usize, column: usize, mut sum: f64) -> f64
-        requires rows_in_bounds { row + N ≤ dim self }
-        requires column_in_bounds { column < dim self }
-        requires sum_value { sum ≡ column_total self row column }
-        ensures { result ≡ column_total self.entry (row + N) column }
+    // Adds to each output, the sum over the rows before these, its terms of these.
+    fn add_rows(self, output: &mut [f64])
+        requires { output.old ≡ column_sums self.product self.row }
+        ensures { output.new ≡ column_sums self.entry.product (self.entry.row + N) }
     {
-        for i in row..row + N {
-            sum = sum + self.matrix[i * self.input.len() + column] * self.input[i];
+        for column in 0..output.len() {
+            output[column] = self.add_terms(column, output[column]);
+        }
+    }
+
+    // The sum of a column over the rows before these, with its terms of these added in order.
+    #[tactic(auto, unfolding(ieee::specs::Sum::sum_to))]
+    fn add_terms(self, column: usize, mut sum: f64) -> f64
+        requires column_in_bounds { column < dim self.product }
+        requires sum_value { sum ≡ column_total self.product self.row column }
+        ensures { result ≡ column_total self.entry.product (self.entry.row + N) column }
+    {
+        let product = self.product;
+        for i in self.row..self.row + N {
+            sum = sum + product.matrix[i * product.input.len() + column] * product.input[i];
         }
         sum
     }
-}
-
-// `rotate` within one buffer: its first d values are the input, the d values after them become the output.
-// Public only for the crates above.
-pub fn rotate_within(matrix: &[f64], work: &mut [f64], d: usize)
-    requires matrix_len { length matrix.now ≡ d * d }
-    requires work_len { length work.old ≡ d + d }
-    ensures { work.new ≡ take d work.old
-        ++ applied d matrix.now (take d work.old) }
-{
-    let (input, output) = work.split_at_mut(d);
-    rotate(matrix, input, output);
-}
-
-// `rotate_back` within one buffer, as `rotate_within`. Public only for the crates above.
-pub fn rotate_back_within(matrix: &[f64], work: &mut [f64], d: usize)
-    requires matrix_len { length matrix.now ≡ d * d }
-    requires work_len { length work.old ≡ d + d }
-    ensures { work.new ≡ take d work.old
-        ++ applied_inverse d matrix.now (take d work.old) }
-{
-    let (input, output) = work.split_at_mut(d);
-    rotate_back(matrix, input, output);
 }

@@ -7,6 +7,6 @@ use Rattle.decode.proofs.check_below.Given as goal
 
 abbrev pub invariant-loop-i : goal.invariant-loop-i
 invariant-loop-i l = record {
-  passed : (j : ℕ) → j < l._i → fails l.indices l.count l.width l.n j ≡ false;
-  reads : ReaderAt l.indices (l._i * l.width) l.reader;
+  passed : (j : ℕ) → j < l._i → fails l.packed l.n j ≡ false;
+  reads : ReaderAt l.packed.bytes.now (l._i * l.packed.width) l.reader;
 }

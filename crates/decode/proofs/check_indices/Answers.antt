@@ -10,10 +10,10 @@ use Rattle.decode.proofs.check_indices.Goals as goal
 
 pub padding-spare-requires : goal.padding-spare-requires
 padding-spare-requires c =
-    ap length c.index_part-indices.ensures ∙ length_indices c.args.bytes.now (parts_of c.args.bytes.now c.args.frame) c.requires.1
+    ap length c.index_part.ensures ∙ length_indices c.args.bytes.now (parts_of c.args.bytes.now c.args.frame) c.requires.frame
 
-pub check_below-requires : goal.check_below-requires
-check_below-requires c =
-    let sized : length c.index_part-indices.result.now ≡ bytes_for (c.args.frame.block_count * c.args.frame.width) =
-    ap length c.index_part-indices.ensures ∙ length_indices c.args.bytes.now (parts_of c.args.bytes.now c.args.frame) c.requires.1 in
-    (omega arith, omega (arith, sized))
+pub invariant_of-packed : goal.invariant_of-packed
+invariant_of-packed c =
+    let sized : length c.index_part.result.now ≡ bytes_for (c.args.frame.block_count * c.args.frame.width) =
+    ap length c.index_part.ensures ∙ length_indices c.args.bytes.now (parts_of c.args.bytes.now c.args.frame) c.requires.frame in
+    record { narrow = omega (arith, c.requires.valid.width_most); whole = omega (arith, sized) }

@@ -1,80 +1,48 @@
--- `decode::reconstruct` meets its contract: gathered, rotated back, scaled;
--- then either refused with the work zeroed, or copied out. Assumes nothing.
-use Rattle.std.specs.Prelude.{None, Some}
+-- `decode::reconstruct` meets its contract: gathered, rotated back, scaled; then either refused, or copied out; and the
+-- work zeroed. Assumes nothing.
+use Rattle.std.specs.Prelude.{None, Some, Result, Ok, Err}
 use mathlib.Core.Path.{◌≡◌, sym, ap, ◌∙◌}
-use mathlib.Core.List.{List, [], ◌∷◌}
-use Prim.Native.Nat.{ℕ, ◌*◌}
+use mathlib.Core.List.{List}
+use Prim.Native.Nat.{ℕ}
+use native.Mathlib.Omega.{arith}
 use lib.ListN.{length, replicate}
 use lib.Ieee.{Float}
-use Rattle.error.specs.Numbers.{completed, refused, whole, accepted, contents}
+use Rattle.error.specs.declared.Refusal.{Refusal}
+use Rattle.error.specs.declared.Refusal.TheVariants.{NonFiniteInput}
+use Rattle.error.specs.Numbers.{outcome, accepted, contents}
 use Rattle.ieee.specs.Sum.{plus_zero}
-use Rattle.bitpack.specs.Layout.{unpacked_indices}
+use Rattle.bitpack.specs.Packed.{indices_in}
 use Rattle.slices.specs.Limit.{first_not_finite}
 use Rattle.decode.specs.Decode.{decoded, only_finite}
-use Rattle.decode.proofs.ValueLaw.{first_bad, copied, copyable}
+use Rattle.decode.proofs.ValueLaw.{copyable, scaled_is}
+use Rattle.decode.proofs.reconstruct.Goals.{in-Some, in-None}
 use Rattle.decode.proofs.reconstruct.Goals as goal
 
--- the two answers
-refuses : (xs old : List Float) (i : ℕ) → first_not_finite xs ≡ Some i → (refused 12 (whole i ∷ []) ≡ accepted (only_finite xs)) × (old ≡ contents (only_finite xs) old)
-refuses xs old i e = (rw e, rw e)
+-- the two answers, from values xs that are those of the definition
+module _ (xs ys out old : List Float) (a : Result Unit Refusal) (v : xs ≡ ys) where
+  refuses : (i : ℕ) → first_not_finite xs ≡ Some i → a ≡ Err (NonFiniteInput i) → out ≡ old → (outcome a ≡ accepted (only_finite ys)) × (out ≡ contents (only_finite ys) old)
+  refuses i f e o = (rw (e, ← v, f), rw (o, ← v, f))
 
-answers : (xs old : List Float) → first_not_finite xs ≡ None → (completed tt ≡ accepted (only_finite xs)) × (xs ≡ contents (only_finite xs) old)
-answers xs old e = (rw e, rw e)
+  answers : first_not_finite xs ≡ None → a ≡ Ok tt → out ≡ xs → (outcome a ≡ accepted (only_finite ys)) × (out ≡ contents (only_finite ys) old)
+  answers f e o = (rw (e, ← v, f), rw (o, ← v, f))
 
-zeroed : (n m : ℕ) (l : List Float) → l ≡ replicate n plus_zero → n ≡ m → l ≡ replicate m plus_zero
-zeroed n m l h e = h ∙ ap (λ (z : ℕ). replicate z plus_zero) e
-
-pub returns-in-Some : goal.returns-in-Some
-returns-in-Some c =
-    let asked : List Float =
-    let s = c in decoded (length s.args.output.now) s.args.k s.args.matrix.now s.args.codewords.now (unpacked_indices s.args.indices.now s.args.count s.args.width) s.args.norm in
-    let found : c.scale.result ≡ first_not_finite (asked) =
-    let q = c in
-    let g = c in
-    let s = c in
-    c.scale.ensures.value ∙ first_bad (length s.args.output.now) s.args.k s.args.matrix.now s.args.codewords.now (unpacked_indices s.args.indices.now s.args.count s.args.width) s.args.norm s.args.work.now g.gather.new.work q.rotate_back_within.new.work (s.args.count * s.args.k) s.requires.blocks s.requires.halves g.gather.ensures q.rotate_back_within.ensures in
-    let same : length c.scale.new.work ≡ length c.args.work.now =
-    c.scale.auto.work ∙ c.rotate_back_within.auto.work ∙ c.gather.auto.work in
-    let z = c in
-    let s = z in
-    let r = refuses (asked) s.args.output.now c.in-Some.place (sym (found) ∙ c.in-Some.is) in
-    (r.0, r.1, zeroed _ _ _ c.zero_f64.ensures (same))
-
-pub copy_out-requires : goal.copy_out-requires
-copy_out-requires c =
-    let same : length c.scale.new.work ≡ length c.args.work.now =
-    c.scale.auto.work ∙ c.rotate_back_within.auto.work ∙ c.gather.auto.work in
-    let asked : List Float =
-    let s = c in decoded (length s.args.output.now) s.args.k s.args.matrix.now s.args.codewords.now (unpacked_indices s.args.indices.now s.args.count s.args.width) s.args.norm in
-    let found : c.scale.result ≡ first_not_finite (asked) =
-    let q = c in
-    let g = c in
-    let s = c in
-    c.scale.ensures.value ∙ first_bad (length s.args.output.now) s.args.k s.args.matrix.now s.args.codewords.now (unpacked_indices s.args.indices.now s.args.count s.args.width) s.args.norm s.args.work.now g.gather.new.work q.rotate_back_within.new.work (s.args.count * s.args.k) s.requires.blocks s.requires.halves g.gather.ensures q.rotate_back_within.ensures in
-    let clean : first_not_finite (asked) ≡ None =
-    sym (found) ∙ c.in_default.is in
-    let z = c in
-    let q = z in
-    let g = z in
-    let s = z in
-    record { work_len = same ∙ s.requires.halves; by_index = copyable (length s.args.output.now) s.args.k s.args.matrix.now s.args.codewords.now (unpacked_indices s.args.indices.now s.args.count s.args.width) s.args.norm s.args.work.now g.gather.new.work q.rotate_back_within.new.work (s.args.count * s.args.k) s.requires.blocks s.requires.halves g.gather.ensures q.rotate_back_within.ensures z.scale.new.work z.scale.ensures.work_after (clean) }
+pub copy_out-requires-clause-by_index : goal.copy_out-requires-clause-by_index
+copy_out-requires-clause-by_index c =
+    copyable c.args.norm c.rotate_back.new.output c.scale.new.values (length c.rotate_back.new.output) c.scale.ensures.values_after (sym c.scale.ensures.bad ∙ c.in-None.is)
 
 pub returns : goal.returns
 returns c =
-    let asked : List Float =
-    let s = c in decoded (length s.args.output.now) s.args.k s.args.matrix.now s.args.codewords.now (unpacked_indices s.args.indices.now s.args.count s.args.width) s.args.norm in
-    let found : c.scale.result ≡ first_not_finite (asked) =
-    let q = c in
-    let g = c in
-    let s = c in
-    c.scale.ensures.value ∙ first_bad (length s.args.output.now) s.args.k s.args.matrix.now s.args.codewords.now (unpacked_indices s.args.indices.now s.args.count s.args.width) s.args.norm s.args.work.now g.gather.new.work q.rotate_back_within.new.work (s.args.count * s.args.k) s.requires.blocks s.requires.halves g.gather.ensures q.rotate_back_within.ensures in
-    let clean : first_not_finite (asked) ≡ None =
-    sym (found) ∙ c.in_default.is in
-    let same : length c.scale.new.work ≡ length c.args.work.now =
-    c.scale.auto.work ∙ c.rotate_back_within.auto.work ∙ c.gather.auto.work in
-    let z = c in
-    let q = z in
-    let g = z in
-    let s = z in
-    let r = answers (asked) s.args.output.now (clean) in
-    (r.0, c.copy_out.ensures ∙ copied (length s.args.output.now) s.args.k s.args.matrix.now s.args.codewords.now (unpacked_indices s.args.indices.now s.args.count s.args.width) s.args.norm s.args.work.now g.gather.new.work q.rotate_back_within.new.work (s.args.count * s.args.k) s.requires.blocks s.requires.halves g.gather.ensures q.rotate_back_within.ensures z.scale.new.work z.scale.ensures.work_after ∙ r.1, zeroed _ _ _ c.zero_f64-2.ensures (same))
+    let a = c.args in
+    let k = a.quantizer.given.profile.block_dim in
+    let indices : List ℕ = indices_in a.packed in
+    let v : c.scale.new.values ≡ decoded (length a.output.now) k a.quantizer.matrix.now a.quantizer.codewords.now indices a.norm =
+    scaled_is (length a.output.now) k a.quantizer.matrix.now a.quantizer.codewords.now indices a.norm _ _ _ _ _ _ (omega arith) (omega arith) (omega arith) c.gather.ensures c.rotate_back.ensures c.scale.ensures.values_after in
+    let zeroed : c.zero_f64.new.s ≡ replicate (length a.work.now) plus_zero = c.zero_f64.ensures ∙ ap (λ (n : ℕ). replicate n plus_zero) c.match-scale.auto.work in
+    elim c.match-scale.branch [
+      | in-Some w ↦
+          let r = refuses _ _ _ _ _ v w.in-Some.place (sym c.scale.ensures.bad ∙ w.in-Some.is) w.answer-is w.output-is in
+          (r.0, r.1, zeroed)
+      | in-None w ↦
+          let r = answers _ _ _ a.output.now _ v (sym c.scale.ensures.bad ∙ w.in-None.is) w.answer-is (w.output-is ∙ w.copy_out.ensures) in
+          (r.0, r.1, zeroed)
+    ]

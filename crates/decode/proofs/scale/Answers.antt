@@ -3,25 +3,24 @@
 use Rattle.std.specs.Prelude.{Option, Some, None}
 use Rattle.std.specs.Option.{option_or}
 use Rattle.std.specs.Bool.{then_some}
-use mathlib.Core.Path.{◌≡◌, refl, ap, ◌∙◌}
+use mathlib.Core.Path.{◌≡◌, refl, sym, ap, ◌∙◌}
 use mathlib.Core.Bool.{Bool, true, false, not}
-use mathlib.Core.List.{List}
 use Prim.Native.Nat.{ℕ, ◌+◌}
+use native.Mathlib.Nat.{zero-add}
+use native.Mathlib.Omega.{arith}
 use native.Mathlib.Numerals.{add-one}
-use lib.ListN.{get_or}
+use lib.ListN.{length, get_or}
 use lib.Ieee.{Float, nan, binary32, binary64, mul}
 use lib.Ieee.Scale.{finite}
 use Rattle.slices.specs.First.{first_where, or_at}
-use Rattle.slices.specs.Lists.{patched}
+use Rattle.slices.specs.Limit.{first_not_finite}
 use Rattle.slices.proofs.ListLaw.{patched_more, patched_next}
 use Rattle.narrow.specs.Pack.{narrow_to}
-use Rattle.decode.proofs.scale.Invariants.{fails, scaled}
+use Rattle.decode.proofs.ListLaw.{all_written}
+use Rattle.decode.proofs.ValueLaw.{scaled, first_bad}
 use Rattle.decode.proofs.scale.Goals as goal
 
 -- one value more
-value : (norm : Float) (old work : List Float) (d i : ℕ) (x : Float) → work ≡ patched old d i (scaled norm old d) → x ≡ narrow_to binary32 (mul binary64 (get_or work (d + i) nan) norm) → x ≡ scaled norm old d i
-value norm old work d i x h e = e ∙ ap (λ (y : Float). narrow_to binary32 (mul binary64 y norm)) (patched_next old work d i (d + i) (scaled norm old d) nan h refl)
-
 noted : (t : ℕ → Bool) (i : ℕ) (bad r : Option ℕ) (b : Bool) → bad ≡ first_where t i → b ≡ t i → r ≡ option_or bad (then_some b i)
     → r ≡ first_where t (i + 1)
 unfolding first_where
@@ -32,17 +31,27 @@ noted t i bad r b h q e = e ∙ rw (add-one, h, q) (same (first_where t i) (t i)
     same None true = refl
     same None false = refl
 
-pub loop-i-init : goal.loop-i-init
-unfolding first_where patched
-loop-i-init c = record { found = refl; written = refl }
-
 pub loop-i-preserved : goal.loop-i-preserved
 loop-i-preserved c =
-    let l = c in
-    let a = l.args in
-    let x = c.f64_to_f32-x.result in
-    let v : x ≡ scaled a.norm a.work.now a.d l.loop-i.i = value a.norm a.work.now l.loop-i.work a.d l.loop-i.i x l.loop-i.invariant.written c.f64_to_f32-x.ensures in record {
-      found = noted (fails a.norm a.work.now a.d) l.loop-i.i l.loop-i.bad c.or-bad.result (not c.is_finite_f32.result) l.loop-i.invariant.found
-          (ap not (c.is_finite_f32.ensures ∙ ap finite v)) (c.or-bad.ensures ∙ ap (option_or l.loop-i.bad) c.then_some.ensures);
-      written = patched_more a.work.now l.loop-i.work a.d l.loop-i.i (a.d + l.loop-i.i) (scaled a.norm a.work.now a.d) c.f32_to_f64.result l.loop-i.invariant.written refl (c.f32_to_f64.ensures ∙ v);
+    let a = c.args in
+    let l = c.loop-i in
+    let v : c.f64_to_f32-x.result ≡ scaled a.norm a.values.now l.i =
+    c.f64_to_f32-x.ensures ∙ ap (λ (y : Float). narrow_to binary32 (mul binary64 y a.norm)) (patched_next a.values.now l.values 0 l.i l.i (scaled a.norm a.values.now) nan l.invariant.written (omega arith) ∙ ap (λ (z : ℕ). get_or a.values.now z nan) (zero-add l.i)) in record {
+      found = noted (λ i. not (finite (scaled a.norm a.values.now i))) l.i l.bad c.or-bad.result (not c.is_finite_f32.result) l.invariant.found
+          (ap not (c.is_finite_f32.ensures ∙ ap finite v)) (c.or-bad.ensures ∙ ap (option_or l.bad) c.then_some.ensures);
+      written = patched_more a.values.now l.values 0 l.i l.i (scaled a.norm a.values.now) c.f32_to_f64.result l.invariant.written (omega arith) (c.f32_to_f64.ensures ∙ v);
     }
+
+pub returns-clause-values_after : goal.returns-clause-values_after
+returns-clause-values_after c =
+    let a = c.args in
+    all_written a.values.now c.loop-i.values c.loop-i.i (scaled a.norm a.values.now) c.loop-i.invariant.written (omega arith)
+
+pub returns-clause-bad : goal.returns-clause-bad
+returns-clause-bad c =
+    let a = c.args in
+    let l = c.loop-i in
+    let g : ℕ → Float = scaled a.norm a.values.now in
+    let e : l.i ≡ length a.values.now = omega arith in
+    l.invariant.found ∙ ap (first_where (λ i. not (finite (g i)))) e ∙ first_bad a.norm a.values.now (length a.values.now)
+    ∙ ap first_not_finite (sym (all_written a.values.now l.values l.i g l.invariant.written e))

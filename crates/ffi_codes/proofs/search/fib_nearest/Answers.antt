@@ -3,9 +3,8 @@ use mathlib.Core.Path.{◌≡◌, refl, ap, ◌∙◌}
 use mathlib.Core.Bool.{Bool, true, false, cond}
 use mir.Val.{bool_byte}
 use lib.Ieee.{of_bits}
-use Rattle.ffi_crossing.specs.Crossing.{crossed, none, whole_values, real_values}
+use Rattle.ffi_crossing.specs.Crossing.{crossed, whole_values, real_values}
 use Rattle.ffi_codes.specs.Search.{found_in}
-use Rattle.ffi_crossing.proofs.CrossingLaws.{same_refusal}
 use Rattle.ffi_codes.proofs.search.fib_nearest.Goals as goal
 
 -- a mark as a number
@@ -16,6 +15,3 @@ mark false = refl
 pub returns-in-Ok : goal.returns-in-Ok
 unfolding whole_values real_values of_bits
 returns-in-Ok c = c.put.ensures ∙ rw (mark c.in-Ok.marked.tied) (ap (crossed found_in) c.in-Ok.ensures)
-
-pub returns-in-Err : goal.returns-in-Err
-returns-in-Err c = c.put_refusal.ensures ∙ same_refusal none found_in c.in-Err.refusal ∙ ap (crossed found_in) c.in-Err.ensures
