@@ -8,6 +8,7 @@ pub struct Refused {
     values: [u64; 2],
 }
 
+// Kept: numbers of its own, which the recorded file has, so that the library's table is checked and not repeated.
 impl From<Refusal> for Refused {
     fn from(refusal: Refusal) -> Refused {
         let (number, values) = match refusal {

@@ -3,7 +3,7 @@ use error::Refusal;
 use profile::FibQuantProfile;
 use std::io;
 
-// The number of a refusal that a shape can meet.
+// The number of a refusal that a shape can meet. Kept: a table of its own beside the one that it is held to.
 fn number(refusal: Refusal) -> u64 {
     match refusal {
         Refusal::ZeroDimension => 1,
