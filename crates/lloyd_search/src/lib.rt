@@ -153,11 +153,23 @@ pub fn choose(before: Choice, later: Choice) -> Choice
 }
 
 // Public only for the crates above: the choice after one more codeword.
+// Kept: beside `choose`: as a call of it LLVM makes the nearer of two by a branch, which takes nearest half as long again.
 pub fn nearer(best: Choice, index: usize, distance: f64) -> Choice
     ensures { result ≡ passing best index distance }
 {
-    let found = Found { index, distance };
-    choose(best, Choice { found, last: index })
+    let found = best.found;
+    let closer = distance < found.distance;
+    Choice {
+        found: Found {
+            index: if closer { index } else { found.index },
+            distance: if closer { distance } else { found.distance },
+        },
+        last: if distance <= found.distance {
+            index
+        } else {
+            best.last
+        },
+    }
 }
 
 // Public only for the crates above: the mark of a choice, that another codeword is as near.
