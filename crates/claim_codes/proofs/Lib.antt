@@ -1,5 +1,6 @@
 pub mod FrameLaw
 pub mod PastLaw
+pub mod NormsLaw
 pub mod NormSizeLaw
 pub mod SearchedLaw
 pub mod LeastLaw

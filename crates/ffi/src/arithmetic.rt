@@ -20,12 +20,12 @@ pub extern "C" fn fib_f64_to_f32(x: f64, whole: &mut [u64; 4], real: &mut [f64; 
     put_answer(Ok(bits), whole, real)
 }
 
-// x at binary16, its bits in whole[0].
+// x at binary16, rounded once, its bits in whole[0].
 #[unsafe(no_mangle)]
-pub extern "C" fn fib_f32_to_f16(x: f32, whole: &mut [u64; 4], real: &mut [f64; 2]) -> u32
+pub extern "C" fn fib_f64_to_f16(x: f64, whole: &mut [u64; 4], real: &mut [f64; 2]) -> u32
     ensures { found result whole.new real.new ≡ crossed one_whole (completed (packed 11 15 x)) }
 {
-    put_answer(Ok(narrow::f32_to_f16_bits(x)), whole, real)
+    put_answer(Ok(narrow::f64_to_f16_bits(x)), whole, real)
 }
 
 // The value of a binary16 pattern, its binary32 bits in whole[0].

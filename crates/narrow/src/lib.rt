@@ -155,13 +155,6 @@ pub fn f64_to_f16_bits(x: f64) -> u16
     BINARY16.narrowed(std::num::f64_to_bits_with_nan(x)) as u16
 }
 
-// The binary16 pattern of x, rounded: binary64 holds x too. A NaN's is 0x7E00.
-pub fn f32_to_f16_bits(x: f32) -> u16
-    ensures { result ≡ packed 11 15 x }
-{
-    f64_to_f16_bits(f32_to_f64(x))
-}
-
 // The value of a binary16 pattern, which binary32 holds exactly.
 pub fn f16_bits_to_f32(b: u16) -> f32
     ensures { result ≡ unpacked 11 15 b }

@@ -8,7 +8,6 @@ use mathlib.Core.Bool.{Bool, true, false, not, ◌&&◌}
 use mathlib.Core.List.{[], ◌∷◌}
 use lib.Dec.{T, ltb, leb, ltb→lt, nltb→le}
 use lib.Pow.{pow_pos}
-use lib.IntN.{negsuc}
 use lib.Ieee.{Float, nan, inf, fin, up, down, lt}
 use lib.Ieee.Fits.{down_pos}
 use lib.Ieee.Exact.{HasValue}
@@ -18,10 +17,10 @@ use Rattle.error.specs.Numbers.{completed}
 use Rattle.error.proofs.Outcomes.{both, passed, completed_same}
 use Rattle.ieee.specs.Sum.{plus_zero}
 use Rattle.narrow.specs.Format.{low_of, inf_of, top_of, units_of, unpacked}
-use Rattle.narrow.specs.Pack.{packed, narrow_to}
+use Rattle.narrow.specs.Pack.{packed}
 use Rattle.narrow.proofs.ToNearest.{units_le}
 use Rattle.narrow.proofs.Unpacked.{unpacked_value}
-use Rattle.norm.specs.Norm.{above_zero, half_of, norm_bits, norm_value}
+use Rattle.norm.specs.Norm.{above_zero, written_as, norm_bits, norm_value}
 
 and_true : (b : Bool) → b && true ≡ b
 and_true true = refl
@@ -111,27 +110,29 @@ pattern_norm b h k = positive_pattern 11 15 b ∙ rw (lt-ltb 0 b h, lt-ltb b (in
 
 -- ---- what is written and what is read
 -- the pattern of a positive norm, one that stands for a finite value above zero
-pub record Written (x : Float) (b : ℕ) : Type 0 where
+pub record WrittenAs (x : Float) (p b : ℕ) : Type 0 where
   pub codable : above_zero x ≡ true
-  pub is : b ≡ half_of x
+  pub is : b ≡ p
   pub above : 0 < b
   pub below : b < inf_of 11 15
 
+pub as_written : (x : Float) (p b : ℕ) → written_as x p ≡ completed b → WrittenAs x p b
+as_written x p b e =
+    let f = passed (not (above_zero x)) 10 [] _ b e in
+    let g = passed (not (above_zero (unpacked 11 15 p))) 10 [] _ b f.1 in
+    let i = sym (completed_same p b g.1) in
+    let r = norm_pattern p (not-false _ g.0) in
+    record { codable = not-false _ f.0; is = i; above = omega arith; below = omega arith }
+
+-- by the pattern that is written
+abbrev pub Written : Float → ℕ → Type 0
+Written x b = WrittenAs x (packed 11 15 x) b
+
 pub norm_written : (x : Float) (b : ℕ) → norm_bits x ≡ completed b → Written x b
 unfolding norm_bits
-norm_written x b e =
-    let f = passed (not (above_zero x)) 10 [] _ b e in
-    let g = passed (not (above_zero (unpacked 11 15 (half_of x)))) 10 [] _ b f.1 in
-    let i = sym (completed_same (half_of x) b g.1) in
-    let r = norm_pattern (half_of x) (not-false _ g.0) in
-    record { codable = not-false _ f.0; is = i; above = omega arith; below = omega arith }
+norm_written x b e = as_written x (packed 11 15 x) b e
 
 -- what is written is read back
 pub read_back : (b : ℕ) → 0 < b → b < inf_of 11 15 → norm_value (b % 256 ∷ b / 256 ∷ []) ≡ completed (unpacked 11 15 b)
 unfolding norm_value
 read_back b h k = rw (mod-add-div' b 256, pattern_norm b h k)
-
--- ---- two roundings: 1 + 2 ^ -11 + 2 ^ -40 is a tie for binary16 only once it is rounded to binary32
-pub rounds_twice : (norm_bits (fin false 1100048498689 (negsuc 39)) ≡ completed 15360) × (packed 11 15 (fin false 1100048498689 (negsuc 39)) ≡ 15361)
-unfolding norm_bits half_of packed narrow_to unpacked lt
-rounds_twice = (refl, refl)

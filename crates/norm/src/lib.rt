@@ -22,15 +22,15 @@ fn is_norm(bits: u16) -> bool
     0 < bits && bits < 0x7C00
 }
 
-// The binary16 pattern of a norm, rounded to binary32 first.
-#[tactic(auto, unfolding(crate::specs::Norm::norm_bits, crate::specs::Norm::half_of))]
+// The binary16 pattern of a norm, rounded once.
+#[tactic(auto, unfolding(crate::specs::Norm::norm_bits))]
 pub fn encode_norm(norm: f64) -> Result<u16, Refusal>
     ensures { outcome result ≡ norm_bits norm }
 {
     if !is_positive(norm) {
         return Err(Refusal::Norm);
     }
-    let bits = narrow::f32_to_f16_bits(narrow::f64_to_f32(norm));
+    let bits = narrow::f64_to_f16_bits(norm);
     if !is_norm(bits) {
         return Err(Refusal::Norm);
     }

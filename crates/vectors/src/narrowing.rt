@@ -1,4 +1,5 @@
 // Conversions between the formats. An input is given by its bits, a result is shown by its.
+use crate::number;
 use std::io;
 
 // Binary64 values, by name and bits.
@@ -46,46 +47,51 @@ pub fn to_binary32(rt: &impl Print) -> io::Result<()> {
     Ok(())
 }
 
-// Binary32 values, by name and bits.
-const TO_BINARY16: [(&str, u32); 29] = [
+// Binary64 values, by name and bits.
+const TO_BINARY16: [(&str, u64); 34] = [
     // Near 1, and halfway between two.
-    ("1", 0x3F80_0000),
-    ("0.1", 0x3DCC_CCCD),
-    ("1 + 2^-11", 0x3F80_1000),
-    ("1 + 2^-11 + 2^-23", 0x3F80_1001),
-    ("1 + 3 * 2^-11", 0x3F80_3000),
-    ("1 + 3 * 2^-11 - 2^-23", 0x3F80_2FFF),
-    ("1 - 2^-12", 0x3F7F_F000),
-    ("-(1 + 2^-11)", 0xBF80_1000),
-    ("-(1 + 3 * 2^-11)", 0xBF80_3000),
+    ("1", 0x3FF0_0000_0000_0000),
+    ("0.1", 0x3FB9_9999_9999_999A),
+    ("1 + 2^-11", 0x3FF0_0200_0000_0000),
+    ("1 + 2^-11 + 2^-23", 0x3FF0_0200_2000_0000),
+    ("1 + 2^-11 + 2^-40", 0x3FF0_0200_0000_1000),
+    ("1 + 2^-11 + 2^-52", 0x3FF0_0200_0000_0001),
+    ("1 + 3 * 2^-11", 0x3FF0_0600_0000_0000),
+    ("1 + 3 * 2^-11 - 2^-52", 0x3FF0_05FF_FFFF_FFFF),
+    ("1 - 2^-12", 0x3FEF_FE00_0000_0000),
+    ("-(1 + 2^-11)", 0xBFF0_0200_0000_0000),
+    ("-(1 + 2^-11 + 2^-52)", 0xBFF0_0200_0000_0001),
+    ("-(1 + 3 * 2^-11)", 0xBFF0_0600_0000_0000),
     // Overflow.
-    ("65504", 0x477F_E000),
-    ("65519.996", 0x477F_EFFF),
-    ("65520", 0x477F_F000),
-    ("-65520", 0xC77F_F000),
-    ("the largest binary32", 0x7F7F_FFFF),
+    ("65504", 0x40EF_FC00_0000_0000),
+    ("65520 - 2^-37", 0x40EF_FDFF_FFFF_FFFF),
+    ("65520", 0x40EF_FE00_0000_0000),
+    ("-65520", 0xC0EF_FE00_0000_0000),
+    ("the largest binary64", 0x7FEF_FFFF_FFFF_FFFF),
     // Underflow.
-    ("2^-14", 0x3880_0000),
-    ("1023 * 2^-24", 0x387F_C000),
-    ("2^-14 - 2^-25", 0x387F_E000),
-    ("3 * 2^-25", 0x33C0_0000),
-    ("2^-24", 0x3380_0000),
-    ("2^-25", 0x3300_0000),
-    ("2^-25 + 2^-48", 0x3300_0001),
-    ("-2^-25", 0xB300_0000),
-    ("-(2^-25 + 2^-48)", 0xB300_0001),
-    ("2^-149", 0x0000_0001),
+    ("2^-14", 0x3F10_0000_0000_0000),
+    ("1023 * 2^-24", 0x3F0F_F800_0000_0000),
+    ("2^-14 - 2^-25", 0x3F0F_FC00_0000_0000),
+    ("2^-14 - 2^-25 - 2^-67", 0x3F0F_FBFF_FFFF_FFFF),
+    ("3 * 2^-25", 0x3E78_0000_0000_0000),
+    ("3 * 2^-25 - 2^-76", 0x3E77_FFFF_FFFF_FFFF),
+    ("2^-24", 0x3E70_0000_0000_0000),
+    ("2^-25", 0x3E60_0000_0000_0000),
+    ("2^-25 + 2^-77", 0x3E60_0000_0000_0001),
+    ("-2^-25", 0xBE60_0000_0000_0000),
+    ("-(2^-25 + 2^-77)", 0xBE60_0000_0000_0001),
+    ("2^-1074", 0x0000_0000_0000_0001),
     // Special values.
-    ("0", 0x0000_0000),
-    ("-0", 0x8000_0000),
-    ("infinity", 0x7F80_0000),
-    ("-infinity", 0xFF80_0000),
-    ("a NaN", 0x7FC0_0000),
+    ("0", 0x0000_0000_0000_0000),
+    ("-0", 0x8000_0000_0000_0000),
+    ("infinity", 0x7FF0_0000_0000_0000),
+    ("-infinity", 0xFFF0_0000_0000_0000),
+    ("a NaN", 0x7FF8_0000_0000_0000),
 ];
 
 pub fn to_binary16(rt: &impl Print) -> io::Result<()> {
     for (name, bits) in TO_BINARY16 {
-        let narrowed = narrow::f32_to_f16_bits(patterns::f32_of(bits));
+        let narrowed = narrow::f64_to_f16_bits(patterns::f64_of(bits));
         println!(rt; "binary16 of {name}: {narrowed:04x}")?;
     }
     Ok(())
@@ -106,21 +112,28 @@ pub fn from_binary16(rt: &impl Print) -> io::Result<()> {
 }
 
 // Binary64 values, by name and bits.
-const NORMS: [(&str, u64); 6] = [
+const NORMS: [(&str, u64); 9] = [
     ("1", 0x3FF0_0000_0000_0000),
     ("1 + 2^-11 + 2^-40", 0x3FF0_0200_0000_1000),
-    ("1 + 2^-11 + 2^-23", 0x3FF0_0200_2000_0000),
     ("65504", 0x40EF_FC00_0000_0000),
-    ("65519.99", 0x40EF_FDFF_AE14_7AE1),
+    ("65520 - 2^-37", 0x40EF_FDFF_FFFF_FFFF),
     ("2^-24", 0x3E70_0000_0000_0000),
+    ("2^-25 + 2^-77", 0x3E60_0000_0000_0001),
+    // Refused.
+    ("65520", 0x40EF_FE00_0000_0000),
+    ("2^-25", 0x3E60_0000_0000_0000),
+    ("-1", 0xBFF0_0000_0000_0000),
 ];
 
-// A norm is narrowed twice, and so rounded twice.
 pub fn norms(rt: &impl Print) -> io::Result<()> {
     for (name, bits) in NORMS {
-        let single = narrow::f64_to_f32(patterns::f64_of(bits));
-        let half = narrow::f32_to_f16_bits(single);
-        println!(rt; "norm {name}: {half:04x}")?;
+        match norm::encode_norm(patterns::f64_of(bits)) {
+            Ok(half) => println!(rt; "norm {name}: {half:04x}")?,
+            Err(refusal) => {
+                let number = number(refusal);
+                println!(rt; "norm {name}, refused by: {number}")?;
+            }
+        }
     }
     Ok(())
 }

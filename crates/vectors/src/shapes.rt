@@ -1,19 +1,7 @@
 // Default numbers of samples, and profiles by their shape.
-use error::Refusal;
+use crate::number;
 use profile::FibQuantProfile;
 use std::io;
-
-// The number of a refusal that a shape can meet. Kept: a table of its own beside the one that it is held to.
-fn number(refusal: Refusal) -> u64 {
-    match refusal {
-        Refusal::ZeroDimension => 1,
-        Refusal::InvalidBlockDim { .. } => 2,
-        Refusal::DimensionNotDivisible { .. } => 3,
-        Refusal::InvalidCodebookSize(_) => 4,
-        Refusal::ResourceLimitExceeded => 5,
-        _ => 99,
-    }
-}
 
 // N, by name and value.
 const CODEBOOK_SIZES: [(&str, u64); 5] = [

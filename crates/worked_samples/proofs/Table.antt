@@ -1,9 +1,8 @@
--- THE FACT: every starred sample of document 01 comes out as the paper says, and a default profile is built. It is
--- computed from the definitions that the contracts cite. Assumes nothing.
+-- THE FACT: every starred sample of document 01, and document 02's examples of a norm, come out as the papers say, and a
+-- default profile is built. It is computed from the definitions that the contracts cite. Assumes nothing.
 use mathlib.Core.Path.{◌≡◌, refl}
 use lib.Ieee.{of_int, round, size, span, climb, units, odd, sum, add, sub, neg, mul, div, lt, eq, le}
 use lib.Count.{count_trailing_zeros}
-use lib.Ieee.Scale.{finite}
 use Rattle.ieee.specs.Sum.{sum_to}
 use Rattle.profile.specs.Fields.{ascii, profile_schema, rotation_algorithm, same_bytes}
 use Rattle.profile.specs.Checks.{shape_of, validity, numbers_of, rates_of, settings_of}
@@ -11,7 +10,7 @@ use Rattle.profile.specs.Paper.{profile_of, paper_of}
 use Rattle.narrow.specs.Format.{unpacked, units_of}
 use Rattle.narrow.specs.Pack.{mag_of, packed, narrow_to}
 use Rattle.root.specs.Sqrt.{isqrt_by, isqrt, root_of, sqrt_of}
-use Rattle.norm.specs.Norm.{half_of, norm_bits}
+use Rattle.norm.specs.Norm.{norm_bits}
 use Rattle.slices.specs.Lists.{tabulate}
 use Rattle.bitpack.specs.Layout.{bits, field, stream_bit, packed_bit}
 use Rattle.bitpack.specs.Answers.{packed_size}
@@ -21,7 +20,7 @@ use Rattle.lloyd_cells.specs.Cells.{count_to, cell_sum, farthest}
 use Rattle.lloyd_cells.specs.Repair.{donor_to, repair_to}
 use Rattle.lloyd_cells.specs.Update.{updated}
 use Rattle.encode.specs.Encode.{norm_of}
-use Rattle.worked_samples.specs.Table.{Hold, table, update, float, floats, split_row, no_direction_row, no_donor_row, nearest_row, mean_row, width_row, one_codeword_row, packing_row, padding_row, frame_row, norm_row, small_norm_row, narrowing_row, root_row, profile_row}
+use Rattle.worked_samples.specs.Table.{Hold, table, update, float, floats, split_row, no_direction_row, no_donor_row, nearest_row, mean_row, width_row, one_codeword_row, packing_row, padding_row, frame_row, norm_row, small_norm_row, once_row, narrowing_row, root_row, profile_row}
 
 split_row_holds : split_row.given ≡ split_row.stated
 unfolding split_row update float floats of_int round size span climb units odd sum add sub neg mul div lt eq le count_trailing_zeros sum_to isqrt_by isqrt root_of sqrt_of count_to cell_sum farthest donor_to repair_to updated
@@ -60,16 +59,20 @@ unfolding padding_row bits field stream_bit packed_size
 padding_row_holds = refl
 
 frame_row_holds : frame_row.given ≡ frame_row.stated
-unfolding frame_row bits field tabulate packed_bit bytes_of header frame_of norm_bits lt unpacked half_of packed narrow_to
+unfolding frame_row bits field tabulate packed_bit bytes_of header frame_of norm_bits lt unpacked packed
 frame_row_holds = refl
 
 norm_row_holds : norm_row.given ≡ norm_row.stated
-unfolding norm_row float floats of_int round size span climb units odd sum add sub neg mul div lt eq le count_trailing_zeros finite unpacked units_of mag_of packed narrow_to half_of norm_bits
+unfolding norm_row float floats of_int round size span climb units odd sum add sub neg mul div lt eq le count_trailing_zeros unpacked units_of mag_of packed norm_bits
 norm_row_holds = refl
 
 small_norm_row_holds : small_norm_row.given ≡ small_norm_row.stated
-unfolding small_norm_row float floats of_int round size span climb units odd sum add sub neg mul div lt eq le count_trailing_zeros finite unpacked units_of mag_of packed narrow_to half_of norm_bits
+unfolding small_norm_row float floats of_int round size span climb units odd sum add sub neg mul div lt eq le count_trailing_zeros unpacked units_of mag_of packed norm_bits
 small_norm_row_holds = refl
+
+once_row_holds : once_row.given ≡ once_row.stated
+unfolding once_row float floats of_int round size span climb units odd sum add sub neg mul div lt eq le count_trailing_zeros unpacked units_of mag_of packed norm_bits
+once_row_holds = refl
 
 narrowing_row_holds : narrowing_row.given ≡ narrowing_row.stated
 unfolding narrowing_row float floats of_int round size span climb units odd count_trailing_zeros narrow_to mag_of packed
@@ -80,9 +83,9 @@ unfolding root_row norm_of float floats of_int round size span climb units odd s
 root_row_holds = refl
 
 profile_row_holds : profile_row.given ≡ profile_row.stated
-unfolding profile_row paper_of profile_of shape_of validity numbers_of rates_of settings_of same_bytes profile_schema rotation_algorithm ascii of_int round size span climb units odd sum add sub neg div lt eq le count_trailing_zeros finite
+unfolding profile_row paper_of profile_of shape_of validity numbers_of rates_of settings_of same_bytes profile_schema rotation_algorithm ascii of_int round size span climb units odd sum add sub neg div lt eq le count_trailing_zeros
 profile_row_holds = refl
 
 pub samples_hold : Hold table
 unfolding table
-samples_hold = (split_row_holds, (no_direction_row_holds, (no_donor_row_holds, (nearest_row_holds, (mean_row_holds, (width_row_holds, (one_codeword_row_holds, (packing_row_holds, (padding_row_holds, (frame_row_holds, (norm_row_holds, (small_norm_row_holds, (narrowing_row_holds, (root_row_holds, (profile_row_holds, tt)))))))))))))))
+samples_hold = (split_row_holds, (no_direction_row_holds, (no_donor_row_holds, (nearest_row_holds, (mean_row_holds, (width_row_holds, (one_codeword_row_holds, (packing_row_holds, (padding_row_holds, (frame_row_holds, (norm_row_holds, (small_norm_row_holds, (once_row_holds, (narrowing_row_holds, (root_row_holds, (profile_row_holds, tt))))))))))))))))

@@ -1,5 +1,5 @@
--- Document 01's starred samples: what the definitions give,
--- beside what the paper says; and a witness of a default profile.
+-- Document 01's starred samples, and document 02's examples of a norm: what the definitions
+-- give, beside what the paper says; and a witness of a default profile.
 -- What is stated is written out as values, so that no definition of the library
 -- stands on both sides (`numbers` only lists whole numbers). Definitions only.
 use Rattle.std.specs.Prelude.{◌≡◌, ℕ, true, false, List, [], ◌∷◌, ◌++◌, map, pos, negsuc, Float}
@@ -144,6 +144,18 @@ small_norm_row = record {
   stated = numbers (10 ∷ 0 ∷ 0x0001 ∷ []);
 }
 
+-- document 02, K3: 1 + 2 ^ -11 + 2 ^ -40, and the binary64 value just under 65,520; and the one just above 2 ^ -25, which is
+-- nearer to 2 ^ -24 than to 0
+unfoldable pub once_row : Row
+unfolding update floats float
+once_row = record {
+  given =
+      shown one (norm_bits (fin false 1100048498689 (negsuc 39)))
+      ++ shown one (norm_bits (fin false 9005000231485439 (negsuc 36)))
+      ++ shown one (norm_bits (fin false 4503599627370497 (negsuc 76)));
+  stated = numbers (0 ∷ 0x3C01 ∷ 0 ∷ 0x7BFF ∷ 0 ∷ 0x0001 ∷ []);
+}
+
 unfoldable pub narrowing_row : Row
 unfolding update floats float
 narrowing_row = record {
@@ -169,9 +181,9 @@ profile_row = record {
 
 unfoldable pub table : List Row
 unfolding split_row no_direction_row no_donor_row nearest_row mean_row width_row one_codeword_row packing_row padding_row frame_row
-    norm_row small_norm_row narrowing_row root_row profile_row
+    norm_row small_norm_row once_row narrowing_row root_row profile_row
 table = split_row ∷ no_direction_row ∷ no_donor_row ∷ nearest_row ∷ mean_row ∷ width_row ∷ one_codeword_row ∷ packing_row ∷
-    padding_row ∷ frame_row ∷ norm_row ∷ small_norm_row ∷ narrowing_row ∷ root_row ∷ profile_row ∷ []
+    padding_row ∷ frame_row ∷ norm_row ∷ small_norm_row ∷ once_row ∷ narrowing_row ∷ root_row ∷ profile_row ∷ []
 
 -- every row of a table comes out as stated
 abbrev pub Hold : List Row → Type 0

@@ -35,9 +35,8 @@ fn pair<'a, T, U>(
 fn conversions(bench: &mut Bench) {
     // Hidden from the compiler, so that it works out nothing beforehand.
     let x = || black_box(2.75f64);
-    let y = || black_box(2.75f32);
     pair(bench, "f64_to_f32", "", || nuqtelya::f64_to_f32(x()), || x() as f32);
-    pair(bench, "f32_to_f16", "", || nuqtelya::f32_to_f16(y()), || f16::from_f32(y()));
+    pair(bench, "f64_to_f16", "", || nuqtelya::f64_to_f16(x()), || f16::from_f32(x() as f32));
     pair(bench, "f16_to_f32", "", || nuqtelya::f16_to_f32(black_box(0x4180)), || f16(black_box(0x4180)).to_f32());
     pair(bench, "sqrt", "", || nuqtelya::sqrt(x()), || x().sqrt());
     pair(bench, "encode_norm", "", || nuqtelya::encode_norm(x()), || codec::probe::encode_norm(x()));

@@ -1,10 +1,11 @@
 //! Writes what the program `vectors` has to write: the file crates/vectors/stdout.
 //!
 //! Inputs are made from sums and powers, and not from the bit patterns of the program. Conversions to binary32, roots,
-//! products and sums are the processor's; binary16 is the oracle's stand-in, which its tests hold against the processor;
-//! norms, counts and refusals are the published Rust's, and where document 01 states a number that has to be it.
+//! products and sums are the processor's; binary16 and norms are the oracle's on whole numbers, and values of binary16 its
+//! stand-in's, which its tests hold against the processor; counts and refusals are the published Rust's. Where a document
+//! states a number that has to be it.
 
-use oracle::{codec, f16, profile, Answer};
+use oracle::{binary16, f16, profile, Answer};
 
 fn main() {
     to_binary32();
@@ -85,32 +86,36 @@ fn to_binary32() {
 }
 
 fn to_binary16() {
-    // Each is a binary32 value.
     let vectors = [
         ("1", 1.0),
-        ("0.1", f64::from(0.1f32)),
+        ("0.1", 0.1),
         ("1 + 2^-11", 1.0 + power(-11)),
         ("1 + 2^-11 + 2^-23", 1.0 + power(-11) + power(-23)),
+        ("1 + 2^-11 + 2^-40", 1.0 + power(-11) + power(-40)),
+        ("1 + 2^-11 + 2^-52", 1.0 + power(-11) + power(-52)),
         ("1 + 3 * 2^-11", 1.0 + 3.0 * power(-11)),
-        ("1 + 3 * 2^-11 - 2^-23", 1.0 + 3.0 * power(-11) - power(-23)),
+        ("1 + 3 * 2^-11 - 2^-52", 1.0 + 3.0 * power(-11) - power(-52)),
         ("1 - 2^-12", 1.0 - power(-12)),
         ("-(1 + 2^-11)", -(1.0 + power(-11))),
+        ("-(1 + 2^-11 + 2^-52)", -(1.0 + power(-11) + power(-52))),
         ("-(1 + 3 * 2^-11)", -(1.0 + 3.0 * power(-11))),
         ("65504", 65504.0),
-        ("65519.996", f64::from(65519.996f32)),
+        ("65520 - 2^-37", 65520.0 - power(-37)),
         ("65520", 65520.0),
         ("-65520", -65520.0),
-        ("the largest binary32", f64::from(f32::MAX)),
+        ("the largest binary64", f64::MAX),
         ("2^-14", power(-14)),
         ("1023 * 2^-24", 1023.0 * power(-24)),
         ("2^-14 - 2^-25", power(-14) - power(-25)),
+        ("2^-14 - 2^-25 - 2^-67", power(-14) - power(-25) - power(-67)),
         ("3 * 2^-25", 3.0 * power(-25)),
+        ("3 * 2^-25 - 2^-76", 3.0 * power(-25) - power(-76)),
         ("2^-24", power(-24)),
         ("2^-25", power(-25)),
-        ("2^-25 + 2^-48", power(-25) + power(-48)),
+        ("2^-25 + 2^-77", power(-25) + power(-77)),
         ("-2^-25", -power(-25)),
-        ("-(2^-25 + 2^-48)", -(power(-25) + power(-48))),
-        ("2^-149", power(-149)),
+        ("-(2^-25 + 2^-77)", -(power(-25) + power(-77))),
+        ("2^-1074", small_power(-1074)),
         ("0", 0.0),
         ("-0", -0.0),
         ("infinity", f64::INFINITY),
@@ -118,8 +123,7 @@ fn to_binary16() {
         ("a NaN", f64::NAN),
     ];
     for (name, x) in vectors {
-        assert!(x.is_nan() || f64::from(x as f32) == x, "{name} is no binary32 value");
-        println!("binary16 of {name}: {:04x}", f16::from_f32(x as f32).0);
+        println!("binary16 of {name}: {:04x}", binary16::from_f64(x));
     }
 }
 
@@ -134,20 +138,22 @@ fn from_binary16() {
 }
 
 fn norms() {
-    // A third is document 01's pattern.
+    // A third is what document 01 or 02 states.
     let vectors = [
         ("1", 1.0, Some(0x3c00)),
-        ("1 + 2^-11 + 2^-40", 1.0 + power(-11) + power(-40), Some(0x3c00)),
-        ("1 + 2^-11 + 2^-23", 1.0 + power(-11) + power(-23), None),
+        ("1 + 2^-11 + 2^-40", 1.0 + power(-11) + power(-40), Some(0x3c01)),
         ("65504", 65504.0, Some(0x7bff)),
-        ("65519.99", 65519.99, None),
+        ("65520 - 2^-37", 65520.0 - power(-37), Some(0x7bff)),
         ("2^-24", power(-24), Some(0x0001)),
+        ("2^-25 + 2^-77", power(-25) + power(-77), None),
     ];
     for (name, x, stated) in vectors {
-        let bytes = codec::probe::encode_norm(x).expect("a norm");
-        let bits = u16::from_le_bytes([bytes[0], bytes[1]]);
+        let bits = binary16::norm(x).expect("a norm");
         assert!(stated.is_none_or(|stated| stated == bits), "{name}");
         println!("norm {name}: {bits:04x}");
+    }
+    for (name, x) in [("65520", 65520.0), ("2^-25", power(-25)), ("-1", -1.0)] {
+        println!("norm {name}, refused by: {}", number(&binary16::norm(x)));
     }
 }
 

@@ -6,7 +6,7 @@ use crate::Refusal;
 extern "C" {
     // The bits of the result in whole[0].
     fn fib_f64_to_f32(x: f64, whole: Whole, real: Real) -> u32;
-    fn fib_f32_to_f16(x: f32, whole: Whole, real: Real) -> u32;
+    fn fib_f64_to_f16(x: f64, whole: Whole, real: Real) -> u32;
     fn fib_f16_to_f32(bits: u16, whole: Whole, real: Real) -> u32;
     // The root in real[0].
     fn fib_sqrt(x: f64, whole: Whole, real: Real) -> u32;
@@ -18,9 +18,9 @@ pub fn f64_to_f32(x: f64) -> Result<f32, Refusal> {
     fits(whole[0]).map(f32::from_bits)
 }
 
-/// binary32 to the bits of a binary16, likewise.
-pub fn f32_to_f16(x: f32) -> Result<u16, Refusal> {
-    let (whole, _) = call((1, 0), |whole, real| unsafe { fib_f32_to_f16(x, whole, real) })?;
+/// binary64 to the bits of a binary16, likewise, in one rounding.
+pub fn f64_to_f16(x: f64) -> Result<u16, Refusal> {
+    let (whole, _) = call((1, 0), |whole, real| unsafe { fib_f64_to_f16(x, whole, real) })?;
     fits(whole[0])
 }
 

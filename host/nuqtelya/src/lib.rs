@@ -49,7 +49,7 @@ mod search;
 mod update;
 mod vectors;
 
-pub use arithmetic::{f16_to_f32, f32_to_f16, f64_to_f32, sqrt};
+pub use arithmetic::{f16_to_f32, f64_to_f16, f64_to_f32, sqrt};
 pub use codebook::{check_codewords, codeword};
 pub use coder::{decode, encode, Code, Coder};
 pub use frame::{parse_frame, write_frame, Frame, HEADER_LEN};

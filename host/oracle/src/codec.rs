@@ -15,6 +15,7 @@ pub struct GpuStepReport {
 pub mod probe {
     use super::*;
     use crate::answer::{refusal, Answer};
+    use crate::binary16;
     use crate::codebook::probe::{codebook, located};
     use crate::profile::probe::Profile;
     use crate::standins::lend;
@@ -71,15 +72,38 @@ pub mod probe {
         Ok(code.to_compact_bytes())
     }
 
-    /// The same, and the number of blocks with another codeword as near as the one chosen.
-    pub fn encode_counted(
-        input: &[f32],
-        codewords: &[f32],
-        matrix: &[f64],
-        profile: &Profile,
-    ) -> Answer<(Vec<u8>, u32)> {
-        let (frame, tied) = gpu_backend::counting_ties(|| encode(input, codewords, matrix, profile));
-        Ok((frame?, tied))
+    /// A code as documents 01 and 02 have it.
+    #[derive(Debug, Clone)]
+    pub struct Encoded {
+        pub frame: Vec<u8>,
+        /// The blocks with another codeword as near as the one chosen.
+        pub tied: u32,
+        /// The norm that the published encoder wrote; none where it refused it.
+        pub published_norm: Option<[u8; 2]>,
+    }
+
+    /// Where the norm stands in a frame.
+    const NORM: std::ops::Range<usize> = 11..13;
+
+    /// The published encoder, but for the norm and refusal 10, in which document 02 (K3) replaces it: these are `binary16`'s.
+    /// It searches all blocks before it codes the norm, so the indices are its own also where it refuses that.
+    pub fn encode_rounded_once(input: &[f32], codewords: &[f32], matrix: &[f64], profile: &Profile) -> Answer<Encoded> {
+        let (published, searches) = gpu_backend::watching(|| encode(input, codewords, matrix, profile));
+        let (mut frame, published_norm) = match published {
+            Ok(frame) => {
+                let norm = [frame[NORM.start], frame[NORM.start + 1]];
+                (frame, Some(norm))
+            }
+            Err((10, _)) => {
+                let indices: Vec<u32> = searches.iter().map(|search| search.index).collect();
+                let packed = pack_indices(&indices, profile.wire_index_bits).map_err(refusal)?;
+                (to_compact_bytes(profile.wire_index_bits, indices.len() as u32, &[0; 2], &packed), None)
+            }
+            Err(refusal) => return Err(refusal),
+        };
+        frame[NORM].copy_from_slice(&binary16::norm(l2_norm(input))?.to_le_bytes());
+        let tied = searches.iter().filter(|search| search.tied).count() as u32;
+        Ok(Encoded { frame, tied, published_norm })
     }
 
     pub fn decode(bytes: &[u8], codewords: &[f32], matrix: &[f64], profile: &Profile) -> Answer<Vec<f32>> {

@@ -104,18 +104,24 @@ pub mod nalgebra {
 /// widened one at a time: the first of least distance among all is the first of those that are nearest by themselves.
 pub mod gpu_backend {
     use crate::lloyd::{nearest_index, probe::tied};
-    use std::cell::Cell;
+    use std::cell::RefCell;
 
-    thread_local! {
-        /// The searches so far with another codeword as near as the one found; counted only while it is asked for.
-        static TIED: Cell<Option<u32>> = const { Cell::new(None) };
+    /// A codeword found, and whether another was as near.
+    pub struct Search {
+        pub index: u32,
+        pub tied: bool,
     }
 
-    /// What `work` makes, and in how many of its searches another codeword was as near as the one found.
-    pub fn counting_ties<T>(work: impl FnOnce() -> T) -> (T, u32) {
-        TIED.set(Some(0));
+    thread_local! {
+        /// The searches so far; kept only while they are asked for.
+        static SEARCHES: RefCell<Option<Vec<Search>>> = const { RefCell::new(None) };
+    }
+
+    /// What `work` makes, and its searches in order.
+    pub fn watching<T>(work: impl FnOnce() -> T) -> (T, Vec<Search>) {
+        SEARCHES.set(Some(Vec::new()));
         let made = work();
-        (made, TIED.take().expect("a count"))
+        (made, SEARCHES.take().expect("a list"))
     }
 
     pub fn nearest_codeword_f32(block: &[f32], codewords: &[f32], k: usize) -> usize {
@@ -129,10 +135,12 @@ pub mod gpu_backend {
                 (best, least) = (index, distance);
             }
         }
-        if let Some(count) = TIED.get() {
-            let wide: Vec<f64> = codewords.iter().map(|v| f64::from(*v)).collect();
-            TIED.set(Some(count + u32::from(tied(&block, &wide, k, best))));
-        }
+        SEARCHES.with_borrow_mut(|searches| {
+            if let Some(searches) = searches {
+                let wide: Vec<f64> = codewords.iter().map(|v| f64::from(*v)).collect();
+                searches.push(Search { index: best as u32, tied: tied(&block, &wide, k, best) });
+            }
+        });
         best
     }
 }

@@ -11,6 +11,7 @@ mod ext;
 mod half;
 mod standins;
 
+pub mod binary16;
 pub mod bitpack;
 pub mod codebook;
 pub mod codec;

@@ -1,8 +1,8 @@
 //! Document 01's samples of the work, through the probes: they show that the oracle is wired up as meant.
 
-use oracle::inputs::fitting;
+use oracle::inputs::{fitting, Random};
 use oracle::profile::probe::Profile;
-use oracle::{bitpack, codebook, codec, f16, lloyd, metrics, profile, rotation};
+use oracle::{binary16, bitpack, codebook, codec, f16, lloyd, metrics, profile, rotation};
 use oracle::{Answer, Value};
 
 /// The number and the whole values of a refusal.
@@ -121,9 +121,14 @@ fn norms() {
     assert_eq!(norm(65_504.0).unwrap(), 0x7bffu16.to_le_bytes());
     assert_eq!(refusal(norm(2f64.powi(-25))), (10, vec![]));
     assert_eq!(norm(2f64.powi(-24)).unwrap(), 0x0001u16.to_le_bytes());
-    // Rounded twice.
+    // Rounded twice; document 02 has another pattern.
     let twice = 1.0 + 2f64.powi(-11) + 2f64.powi(-40);
     assert_eq!(norm(twice).unwrap(), 0x3c00u16.to_le_bytes());
+    assert_eq!(binary16::norm(twice).unwrap(), 0x3c01);
+    assert_eq!(binary16::norm(65_520f64.next_down()).unwrap(), 0x7bff);
+    assert_eq!(refusal(binary16::norm(65_520.0)), (10, vec![]));
+    assert_eq!(refusal(binary16::norm(2f64.powi(-25))), (10, vec![]));
+    assert_eq!(refusal(binary16::norm(-1.0)), (10, vec![]));
     assert_eq!(codec::probe::decode_norm(&[0x00, 0x3c]).unwrap(), 1.0);
     assert_eq!(refusal(codec::probe::decode_norm(&[0x00])), (10, vec![]));
 }
@@ -162,8 +167,19 @@ fn codes() {
     let opposite = [1.0, 0.0, -1.0, 0.0];
     for (input, tied) in [([0.0, 1.0, 0.0, 1.0], 2), ([1.0, 0.0, 0.0, 1.0], 1), ([1.0, 0.0, -1.0, 0.0], 0)] {
         let frame = codec::probe::encode(&input, &opposite, &unit, &good).unwrap();
-        assert_eq!(codec::probe::encode_counted(&input, &opposite, &unit, &good).unwrap(), (frame, tied));
+        let once = codec::probe::encode_rounded_once(&input, &opposite, &unit, &good).unwrap();
+        assert_eq!((once.published_norm, once.tied), (Some([frame[11], frame[12]]), tied));
+        assert_eq!(once.frame, frame);
     }
+    // A norm just above 1 + 2^-11, and one just under 65,520, which two roundings take to infinity.
+    let once = |input: &[f32]| codec::probe::encode_rounded_once(input, &codewords, &unit, &good);
+    let above = once(&[1.0 + 1.0 / 2048.0, 1.0 / 524_288.0, 0.0, 0.0]).unwrap();
+    assert_eq!((&above.frame[11..13], above.published_norm), (&[0x01, 0x3c][..], Some([0x00, 0x3c])));
+    let under = once(&[65_519.996, 22.62, 0.0, 0.0]).unwrap();
+    assert_eq!((&under.frame[11..13], under.published_norm), (&[0xff, 0x7b][..], None));
+    let same = encode(&[65_519.996 / 2.0, 22.62 / 2.0, 0.0, 0.0]).unwrap();
+    assert_eq!((&under.frame[..11], &under.frame[13..]), (&same[..11], &same[13..]));
+    assert_eq!(refusal(once(&[65_520.0, 0.0, 0.0, 0.0])), (10, vec![]));
     let header = codec::probe::to_compact_bytes(2, 2, &[0, 0x3c], &[0]);
     assert_eq!(refusal(codec::probe::decode(&header, &codewords, &unit, &good)), (17, vec![]));
     let large = [0.0, 0.0, f32::NAN, 0.0];
@@ -216,5 +232,44 @@ fn half_as_the_processor_has_it() {
     for bits in (0..=u32::MAX).step_by(step) {
         let x = f32::from_bits(bits);
         assert_eq!(f16::from_f32(x).0, unsafe { to_half(x) }, "{bits:#x}");
+    }
+}
+
+/// The conversion on whole numbers against the compiler's own, from its run-time library: every middle between two
+/// patterns, every pattern, and binary64 values beside them, of both signs.
+#[test]
+#[cfg(target_arch = "x86_64")]
+fn binary16_as_the_compiler_has_it() {
+    extern "C" {
+        // C's conversion of a double to _Float16, whose bits are the low ones of the register that a float comes back in.
+        fn __truncdfhf2(x: f64) -> f32;
+    }
+
+    let same = |x: f64| {
+        let expected = unsafe { __truncdfhf2(std::hint::black_box(x)) }.to_bits() as u16;
+        assert_eq!(binary16::from_f64(x), expected, "{x:e}");
+    };
+    for bits in 0..0x7c00 {
+        let low = f64::from(f16(bits).to_f32());
+        let high = if bits == 0x7bff { 65_536.0 } else { f64::from(f16(bits + 1).to_f32()) };
+        for center in [low, (low + high) / 2.0] {
+            for step in [0, 1, 2, 1 << 11, 1 << 12, 1 << 28, 1 << 29, 1 << 30] {
+                for x in [center.to_bits().saturating_sub(step), center.to_bits() + step].map(f64::from_bits) {
+                    same(x);
+                    same(-x);
+                }
+            }
+        }
+    }
+    let mut random = Random::new(1);
+    for _ in 0..4_000_000 {
+        let bits = random.bits();
+        let exponent = 1023 - 28 + random.below(48);
+        // Around binary16's own sizes, and up to 2.
+        same(f64::from_bits(bits & 0x800f_ffff_ffff_ffff | exponent << 52));
+        same(f64::from_bits(bits & !(1 << 62)));
+    }
+    for x in [f64::MIN_POSITIVE, f64::MAX, f64::INFINITY, f64::NEG_INFINITY] {
+        same(x);
     }
 }

@@ -331,6 +331,27 @@ fn the_first_refusal_of_all_threads_is_told() {
     }
 }
 
+/// Norms beside a middle between two binary16 values, and at the two beside which there is none to store.
+#[test]
+fn a_norm_is_rounded_once() {
+    let folder = given("norms");
+    folder.done(GIVEN);
+    let encode = "encode --codebook book --vectors vectors --out codes";
+    // Just above 1 + 2^-11, just under 65,520 and just above 2^-25: by way of binary32 they would be 0x3c00 and refused.
+    let (small, least) = (2f32.powi(-25), 2f32.powi(-39));
+    let vectors =
+        [[1.0 + 1.0 / 2048.0, 1.0 / 524_288.0, 0.0, 0.0], [65_519.996, 22.62, 0.0, 0.0], [small, least, 0.0, 0.0]];
+    folder.write("vectors", &bytes32(&vectors.concat()));
+    folder.done(encode);
+    let norms: Vec<u16> =
+        folder.read("codes").chunks_exact(14).map(|code| u16::from_le_bytes([code[11], code[12]])).collect();
+    assert_eq!(norms, [0x3c01, 0x7bff, 0x0001]);
+    for refused in [65_520.0, small] {
+        folder.write("vectors", &bytes32(&[1.0, 0.0, 0.0, 0.0, 0.0, refused, 0.0, 0.0]));
+        folder.fails(encode, 1, "vector 1: refused by 10");
+    }
+}
+
 /// Between (2, 0) and (-2, 0) a block (0, 1) is a toss, and (1, 0) is none.
 #[test]
 fn tosses_are_counted() {

@@ -1,4 +1,5 @@
-//! Vectors that are encoded and frames that are decoded, for the host's file.
+//! Vectors that are encoded and frames that are decoded, for the host's file. The norm of a frame, and refusal 10, are
+//! document 02's (K3) and not the published encoder's.
 
 use crate::answers::{answer, profile, UNFIT};
 use crate::form::{Coding, Decoding, Encoding, DECODE, ENCODE};
@@ -43,7 +44,7 @@ impl Coder {
     fn coding(&self, inputs: Vec<Vec<f32>>, frames: Vec<Vec<u8>>) -> Coding {
         let Coder { profile: p, matrix, codewords } = self;
         let encoding = |input: Vec<f32>| {
-            let frame = answer(probe::encode(&input, codewords, matrix, p), |frame| frame);
+            let frame = answer(probe::encode_rounded_once(&input, codewords, matrix, p), |code| code.frame);
             Encoding { input, answer: frame }
         };
         let decoding = |frame: Vec<u8>| {
@@ -99,13 +100,16 @@ fn refused() -> Vec<Coding> {
 
 /// Inputs and frames that are sound, and every refusal that neither profile nor codewords give.
 fn small() -> Coding {
-    let inputs: [&[f32]; 9] = [
+    let inputs: [&[f32]; 11] = [
         &[1.0, 2.0, 3.0, 4.0],
-        // A norm just above 1 + 2^-11, which two roundings take to 1 and one would not.
+        // A norm just above 1 + 2^-11, which two roundings would take to 1.
         &[1.0 + 1.0 / 2048.0, 1.0 / 524_288.0, 0.0, 0.0],
-        // The largest norm that can be coded, and the least that can't.
+        // Norms of 65,504, just under 65,520, which two roundings would refuse, and the least that is too large.
         &[65_504.0, 0.0, 0.0, 0.0],
+        &[65_519.996, 22.62, 0.0, 0.0],
         &[65_520.0, 0.0, 0.0, 0.0],
+        // A norm just above 2^-25, likewise.
+        &[1.0 / 33_554_432.0, 1.0 / 549_755_813_888.0, 0.0, 0.0],
         &[1e-9, 0.0, 0.0, 0.0],
         &[0.0, -0.0, 0.0, 0.0],
         &[0.0, f32::NAN, 1.0, f32::INFINITY],

@@ -1,12 +1,14 @@
-//! Encoding of vectors: the frame, the number of tied blocks, and every buffer.
+//! Encoding of vectors: the frame, the number of tied blocks, and every buffer. The norm's two bytes and refusal 10 are
+//! document 02's (K3), from the conversion on whole numbers; all else is the Rust's.
 
 use super::codes::{faulty, largest, Setup, FAULTS};
+use super::norm::{middle, ANOTHER_BIT, NOT_REFUSED};
 use super::profile::{published, validity};
 use crate::inputs;
 use crate::rules::{grid, length};
 use crate::run::{lent, Outcome, Run};
 use beside::proved;
-use oracle::codec::probe;
+use oracle::codec::probe::{self, Encoded};
 use oracle::inputs::Random;
 use oracle::Answer;
 
@@ -30,7 +32,11 @@ pub fn run(run: &mut Run) -> Outcome {
     for _ in 0..run.rounds(2_000) {
         repeated(run)?;
     }
-    run.met(&[2, 6, 7, 10, 12, 13, 18], &[NO_BLOCK, SOME_BLOCKS, EVERY_BLOCK])
+    // Every middle, and the two beside which a norm has no pattern more often.
+    for bits in (0..0x7c00).chain([0, 0x7bff].repeat(200)) {
+        beside_middle(run, bits)?;
+    }
+    run.met(&[2, 6, 7, 10, 12, 13, 18], &[NO_BLOCK, SOME_BLOCKS, EVERY_BLOCK, ANOTHER_BIT, NOT_REFUSED])
 }
 
 // What a code shows.
@@ -84,6 +90,22 @@ fn repeated(run: &mut Run) -> Outcome {
     encodings(run, &setup, 4)
 }
 
+/// A norm beside the middle from a binary16 to the next, nearer to it than binary32 can tell: a first value that is hardly
+/// less, and a small one that makes up the rest.
+fn beside_middle(run: &mut Run, bits: u16) -> Outcome {
+    let random = &mut run.random;
+    let (blocks, k, n) = (2 + random.index(3), 1 + random.index(3), 2 + random.index(6));
+    let setup = Setup::random(random, blocks, k, n);
+    let target = middle(bits) * (1.0 + (random.below(7) as f64 - 3.0) * 2f64.powi(-26));
+    let first = (target as f32).next_down();
+    let second = (target * target - f64::from(first) * f64::from(first)).sqrt() as f32;
+    let mut input = vec![0.0; setup.dim()];
+    let place = random.index(input.len());
+    let other = (place + 1 + random.index(input.len() - 1)) % input.len();
+    (input[place], input[other]) = (first, random.pick(&[second, -second]));
+    right(run, &setup, &input)
+}
+
 fn random(run: &mut Run, blocks: usize, k: usize, n: usize, inputs: usize) -> Outcome {
     let setup = Setup::random(&mut run.random, blocks, k, n);
     encodings(run, &setup, inputs)
@@ -113,10 +135,11 @@ fn vector(random: &mut Random, d: usize) -> Vec<f32> {
 }
 
 /// Inputs that are sound, of a wrong length, or refused by 13, 12 and 10.
-const INPUTS: [&[f32]; 9] = [
+const INPUTS: [&[f32]; 10] = [
     &[1.0, 2.0, 3.0, 4.0],
-    // A norm just above 1 + 2^-11, which two roundings take to 1 and one would not.
+    // Norms just above 1 + 2^-11 and just under 65,520, which two roundings would take to 1 and to infinity.
     &[1.0 + 1.0 / 2048.0, 1.0 / 524_288.0, 0.0, 0.0],
+    &[65_519.996, 22.62, 0.0, 0.0],
     &[1.0, 2.0, 3.0],
     &[1.0, 2.0, 3.0, 4.0, 5.0],
     &[],
@@ -170,7 +193,12 @@ fn right(run: &mut Run, setup: &Setup, input: &[f32]) -> Outcome {
 fn case(run: &mut Run, setup: &Setup, input: &[f32], output_len: usize, work_len: usize) -> Outcome {
     // Completed, the output holds the frame and the work zeros; refused, both hold what they held.
     let expected = match expected(setup, input, output_len, work_len) {
-        Ok((frame, tied)) => {
+        Ok(Encoded { frame, tied, published_norm }) => {
+            match published_norm {
+                Some(norm) if norm != frame[11..13] => run.see(ANOTHER_BIT),
+                Some(_) => {}
+                None => run.see(NOT_REFUSED),
+            }
             run.see(match tied {
                 0 => NO_BLOCK,
                 _ if tied == setup.profile.ambient_dim / setup.profile.block_dim => EVERY_BLOCK,
@@ -188,12 +216,12 @@ fn case(run: &mut Run, setup: &Setup, input: &[f32], output_len: usize, work_len
     run.same("encode", &expected, &(answer, (output, work)), shown)
 }
 
-fn expected(setup: &Setup, input: &[f32], output: usize, work: usize) -> Answer<(Vec<u8>, u32)> {
+fn expected(setup: &Setup, input: &[f32], output: usize, work: usize) -> Answer<Encoded> {
     validity(&setup.profile, setup.log2)?;
     setup.lengths()?;
     length(5, input.len() == setup.dim())?;
     length(6, output == setup.frame_len())?;
     length(7, work == 2 * setup.dim())?;
     setup.values()?;
-    probe::encode_counted(input, &setup.codewords, &setup.matrix, &published(&setup.profile))
+    probe::encode_rounded_once(input, &setup.codewords, &setup.matrix, &published(&setup.profile))
 }

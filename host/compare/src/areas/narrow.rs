@@ -1,9 +1,11 @@
-//! Narrowing against the processor (binary64 to binary32) and the oracle's binary16, and widening from binary16.
+//! Narrowing against the processor (binary64 to binary32) and the oracle's binary16 on whole numbers, and widening from
+//! binary16.
 
+use super::norm::{middle, value};
 use crate::inputs;
 use crate::run::{Outcome, Run};
 use beside::proved;
-use oracle::f16;
+use oracle::{binary16, f16};
 use std::ops::RangeInclusive;
 
 pub fn run(run: &mut Run) -> Outcome {
@@ -21,43 +23,51 @@ fn widened(run: &mut Run) -> Outcome {
     Ok(())
 }
 
-/// Every binary32, or: around each binary16 and around the middle to the next one, and any bits.
+/// Around each binary16 and around the middle to the next one, by steps of binary64 and of binary32, and any bits; in a
+/// long run also every binary32.
 fn to_binary16(run: &mut Run) -> Outcome {
     if run.many {
-        for bits in 0..=u32::MAX {
-            half(run, f32::from_bits(bits))?;
+        for x in (0..=u32::MAX).map(f32::from_bits) {
+            // The stand-in, which the oracle's tests hold against the processor, is sooner done than whole numbers.
+            half(run, f64::from(x), f16::from_f32(x).0)?;
         }
-        return Ok(());
     }
-    for bits in 0..=u16::MAX {
-        // The steps of the format go on beyond its largest value, which decides what becomes infinite.
-        let value = |bits: u16| match bits {
-            0x7c00 => 65_536.0,
-            0xfc00 => -65_536.0,
-            _ => f16(bits).to_f32(),
-        };
-        let exact = value(bits);
-        let middle = exact / 2.0 + value(bits.wrapping_add(1)) / 2.0;
-        for center in [exact, middle] {
-            for step in 0..7 {
-                let near = center.to_bits().wrapping_add(step).wrapping_sub(3);
-                half(run, f32::from_bits(near))?;
+    for bits in 0..0x7c00 {
+        for center in [value(bits), middle(bits)].map(f64::to_bits) {
+            for step in [0, 1, 2, 1 << 28, 1 << 29, 2 << 29, 3 << 29] {
+                for near in [center + step, center.saturating_sub(step)].map(f64::from_bits) {
+                    any(run, near)?;
+                    any(run, -near)?;
+                }
             }
         }
     }
-    for _ in 0..1_000_000 {
-        let bits = run.random.bits() as u32;
-        half(run, f32::from_bits(bits))?;
+    for x in [65_536.0, f64::MAX, f64::INFINITY, f64::NAN, f64::MIN_POSITIVE, 5e-324] {
+        any(run, x)?;
+        any(run, -x)?;
+    }
+    for _ in 0..run.rounds(1_000_000) {
+        let bits = run.random.bits();
+        any(run, f64::from_bits(bits))?;
+        let exponent = BINARY16.start() + run.random.below(BINARY16.end() - BINARY16.start() + 1);
+        any(run, f64::from_bits(bits & 0x800f_ffff_ffff_ffff | exponent << 52))?;
     }
     Ok(())
 }
 
-fn half(run: &mut Run, x: f32) -> Outcome {
+fn any(run: &mut Run, x: f64) -> Outcome {
+    half(run, x, binary16::from_f64(x))
+}
+
+fn half(run: &mut Run, x: f64, expected: u16) -> Outcome {
     // Any NaN will do for a NaN.
     let plain = |bits: u16| if bits & 0x7fff > 0x7c00 { 0x7e00 } else { bits };
-    let expected = Ok(plain(f16::from_f32(x).0));
-    run.same("f32 to f16", &expected, &proved(nuqtelya::f32_to_f16(x)).map(plain), inputs!(x))
+    let expected = Ok(plain(expected));
+    run.same("f64 to f16", &expected, &proved(nuqtelya::f64_to_f16(x)).map(plain), inputs!(x))
 }
+
+/// Exponents, biased, of binary16's values, subnormal ones and a little beyond included.
+const BINARY16: RangeInclusive<u64> = 1023 - 27..=1023 + 17;
 
 /// Exponents, biased, of binary32's values, subnormal ones and a little beyond included.
 const BINARY32: RangeInclusive<u64> = 1023 - 152..=1023 + 129;

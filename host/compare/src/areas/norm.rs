@@ -1,10 +1,11 @@
-//! Norms, encoded and decoded.
+//! Norms: decoded, beside the Rust; encoded, beside the conversion on whole numbers, which document 02 (K3) puts in its
+//! place.
 
 use crate::inputs;
 use crate::run::{Outcome, Run};
 use beside::proved;
 use oracle::codec::probe;
-use oracle::f16;
+use oracle::{binary16, f16};
 
 pub fn run(run: &mut Run) -> Outcome {
     // Every payload of two bytes, and every other length.
@@ -16,17 +17,21 @@ pub fn run(run: &mut Run) -> Outcome {
             decode(run, &vec![byte; len])?;
         }
     }
-    // Every binary16 from 0 to the largest and the middle to the next, exactly, and a step away in each format.
-    for bits in 0..0x7c00u16 {
-        let low = f64::from(f16(bits).to_f32());
-        let high = if bits == 0x7bff { 65_536.0 } else { f64::from(f16(bits + 1).to_f32()) };
-        for center in [low, (low + high) / 2.0] {
-            let steps = [center * 2f64.powi(-24), center * 2f64.powi(-25), center * 2f64.powi(-40), 5e-324];
-            encode(run, center)?;
-            for step in steps {
-                encode(run, center + step)?;
-                encode(run, center - step)?;
+    // Every binary16 from 0 to the largest and the middle to the next, exactly; the binary64 values next to it; and some
+    // between it and the binary32 values next to it, which are 2^29 binary64 values away.
+    for bits in 0..0x7c00 {
+        for center in [value(bits), middle(bits)].map(f64::to_bits) {
+            encode(run, f64::from_bits(center))?;
+            for step in [1, 2, 3, 1 << 12, 1 << 27, (1 << 28) - 1, 1 << 28, (1 << 28) + 1, 1 << 29, 3 << 28] {
+                encode(run, f64::from_bits(center + step))?;
+                encode(run, f64::from_bits(center.saturating_sub(step)))?;
             }
+        }
+    }
+    // The two middles beside which there is nothing to write.
+    for center in [2f64.powi(-25), 65_520.0].map(f64::to_bits) {
+        for step in 0..=4_000 {
+            encode(run, f64::from_bits(center - 2_000 + step))?;
         }
     }
     for power in -1074..1024 {
@@ -37,16 +42,43 @@ pub fn run(run: &mut Run) -> Outcome {
     for x in [0.0, -0.0, f64::NAN, f64::INFINITY, f64::NEG_INFINITY, f64::MAX, 1.0 + 2f64.powi(-11) + 2f64.powi(-40)] {
         encode(run, x)?;
     }
-    for _ in 0..run.rounds(20_000) {
+    for _ in 0..run.rounds(600_000) {
         let (any, near) = (run.random.f64(), run.random.near_one());
         encode(run, any)?;
         encode(run, near)?;
+        // Of any size that binary16 has, and a little beyond.
+        let exponent = 1023 - 27 + run.random.below(45);
+        encode(run, f64::from_bits(any.to_bits() & 0xf_ffff_ffff_ffff | exponent << 52))?;
     }
-    run.met(&[10], &[])
+    run.met(&[10], &[ANOTHER_BIT, NOT_REFUSED])
+}
+
+// How a norm's pattern differs from the published one.
+pub const ANOTHER_BIT: &str = "norms with another last bit than the Rust's";
+pub const NOT_REFUSED: &str = "norms that the Rust refuses";
+
+/// What a pattern without a sign stands for. The steps of the format go on beyond its largest value.
+pub fn value(bits: u16) -> f64 {
+    match bits {
+        0x7c00 => 65_536.0,
+        _ => f64::from(f16(bits).to_f32()),
+    }
+}
+
+/// The middle from a pattern to the next.
+pub fn middle(bits: u16) -> f64 {
+    (value(bits) + value(bits + 1)) / 2.0
 }
 
 fn encode(run: &mut Run, norm: f64) -> Outcome {
-    let expected = probe::encode_norm(norm).map(|bytes| u16::from_le_bytes([bytes[0], bytes[1]]));
+    let expected = binary16::norm(norm);
+    if let Ok(bits) = expected {
+        match probe::encode_norm(norm) {
+            Ok(published) if published != bits.to_le_bytes() => run.see(ANOTHER_BIT),
+            Ok(_) => {}
+            Err(_) => run.see(NOT_REFUSED),
+        }
+    }
     run.same("encode_norm", &expected, &proved(nuqtelya::encode_norm(norm)), inputs!(norm))
 }
 

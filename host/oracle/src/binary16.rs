@@ -1,0 +1,70 @@
+//! binary64 to binary16, rounded once, on exact whole numbers: a separate statement of what IEEE 754 describes, apart from
+//! the published code and its stand-ins. Document 02 (K3) has a norm and refusal 10 compared with such a one.
+
+use crate::answer::{refused, Answer};
+
+/// All that is above zero's pattern and below infinity's.
+const NORMS: std::ops::Range<u16> = 1..0x7c00;
+
+/// Both sides are whole numbers of units of 2^-78: no binary64 value from 2^-26 on has a smaller digit.
+const UNIT: i32 = 78;
+
+/// The bits of the nearest binary16, on a tie of the even one. A NaN's are 0x7e00.
+pub fn from_f64(x: f64) -> u16 {
+    if x.is_nan() {
+        return 0x7e00;
+    }
+    let sign = (x.to_bits() >> 48) as u16 & 0x8000;
+    let size = x.abs();
+    let pattern = match size {
+        // Less than half of the smallest value, 2^-24; and beyond the middle from the largest to 2^16.
+        _ if size < 2f64.powi(-26) => 0,
+        _ if size >= 2f64.powi(17) => 0x7c00,
+        _ => nearest(units(size)),
+    };
+    sign | pattern
+}
+
+/// The binary16 that a norm is written as, by document 02: 10 unless the norm is finite and above zero, and so is that.
+pub fn norm(x: f64) -> Answer<u16> {
+    let pattern = from_f64(x);
+    if x.is_finite() && x > 0.0 && NORMS.contains(&pattern) {
+        return Ok(pattern);
+    }
+    Err(refused(10, &[]))
+}
+
+/// A normal binary64 value from 2^-26 up to 2^17 in units, exactly.
+fn units(x: f64) -> u128 {
+    let bits = x.to_bits();
+    let significand = u128::from(bits & 0xf_ffff_ffff_ffff | 0x10_0000_0000_0000);
+    let exponent = (bits >> 52) as i32 - 1075;
+    significand << (exponent + UNIT)
+}
+
+/// What a pattern without a sign stands for in units. Infinity's counts as 2^16.
+fn value(pattern: u16) -> u128 {
+    let (exponent, digits) = (i32::from(pattern >> 10), u128::from(pattern & 0x3ff));
+    match exponent {
+        0 => digits << (UNIT - 24),
+        _ => (0x400 + digits) << (exponent - 1 + UNIT - 24),
+    }
+}
+
+/// Patterns are in the order of their values: the last one not above, or the next one.
+fn nearest(units: u128) -> u16 {
+    let (mut low, mut high) = (0, 0x7c00);
+    while low < high {
+        let middle = (low + high + 1) / 2;
+        if value(middle) <= units {
+            low = middle;
+        } else {
+            high = middle - 1;
+        }
+    }
+    if low == 0x7c00 {
+        return low;
+    }
+    let (below, above) = (units - value(low), value(low + 1) - units);
+    low + u16::from(above < below || above == below && low % 2 == 1)
+}
