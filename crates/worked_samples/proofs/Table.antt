@@ -1,5 +1,6 @@
--- THE FACT: every starred sample of document 01, and document 02's examples of a norm, come out as the papers say, and a
--- default profile is built. It is computed from the definitions that the contracts cite. Assumes nothing.
+-- THE FACT: every starred sample of document 01, and document 02's examples of a norm, come out as the papers say, a norm
+-- just above 2 ^ -25 is coded, and a default profile is built. It is computed from the definitions that the contracts cite.
+-- Assumes nothing.
 use mathlib.Core.Path.{◌≡◌, refl}
 use lib.Ieee.{of_int, round, size, span, climb, units, odd, sum, add, sub, neg, mul, div, lt, eq, le}
 use lib.Count.{count_trailing_zeros}

@@ -1,5 +1,5 @@
--- Document 01's starred samples, and document 02's examples of a norm: what the definitions
--- give, beside what the paper says; and a witness of a default profile.
+-- Document 01's starred samples, and document 02's examples of a norm: what the definitions give, beside
+-- what the paper says; and two witnesses, of a norm just above 2 ^ -25 and of a default profile.
 -- What is stated is written out as values, so that no definition of the library
 -- stands on both sides (`numbers` only lists whole numbers). Definitions only.
 use Rattle.std.specs.Prelude.{◌≡◌, ℕ, true, false, List, [], ◌∷◌, ◌++◌, map, pos, negsuc, Float}

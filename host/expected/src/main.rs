@@ -1,9 +1,9 @@
 //! Writes what the program `vectors` has to write: the file crates/vectors/stdout.
 //!
 //! Inputs are made from sums and powers, and not from the bit patterns of the program. Conversions to binary32, roots,
-//! products and sums are the processor's; binary16 and norms are the oracle's on whole numbers, and values of binary16 its
-//! stand-in's, which its tests hold against the processor; counts and refusals are the published Rust's. Where a document
-//! states a number that has to be it.
+//! products and sums are the processor's; binary16 and norms, refused ones too, are the oracle's on whole numbers, and
+//! values of binary16 its stand-in's, which its tests hold against the processor; counts and all other refusals are the
+//! published Rust's. Where a document states a number, that has to be it.
 
 use oracle::{binary16, f16, profile, Answer};
 

@@ -11,7 +11,7 @@ extern "C" {
 }
 
 /// The bits of the binary16 that a norm is stored as; a frame has them with the low byte first. The norm is rounded once, to
-/// the nearest value, ties to even, as other software converts a double; 10 where it is not above zero, or where that value
+/// the nearest value, ties to even, as IEEE 754 describes a conversion; 10 where it is not above zero, or where that value
 /// is zero or infinite: up to 2^-25, and from 65,520 on.
 ///
 /// ```

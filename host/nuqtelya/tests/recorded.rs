@@ -1,7 +1,6 @@
 //! Answers of the published Rust for training and codes, recorded in recorded.bin, beside the library's own: results
-//! and refusals bit for bit, and every lent buffer. The norm of a code, and refusal 10, were recorded as document 02 (K3)
-//! has them. The published sources are not needed; host/README.md says how the
-//! file is made.
+//! and refusals bit for bit, and every lent buffer. The norm of an encoded vector, and refusal 10 of it, were recorded as
+//! document 02 (K3) has them. The published sources are not needed; host/README.md says how the file is made.
 
 #[path = "recorded/form.rs"]
 mod form;

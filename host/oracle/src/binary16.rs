@@ -42,8 +42,19 @@ fn units(x: f64) -> u128 {
     significand << (exponent + UNIT)
 }
 
-/// What a pattern without a sign stands for in units. Infinity's counts as 2^16.
-fn value(pattern: u16) -> u128 {
+/// What a pattern without a sign stands for. Infinity's counts as 2^16: the steps of the format go on beyond its largest.
+pub fn value(pattern: u16) -> f64 {
+    // No value has more than 11 digits.
+    in_units(pattern) as f64 / 2f64.powi(UNIT)
+}
+
+/// The middle from a pattern to the next.
+pub fn middle(pattern: u16) -> f64 {
+    (value(pattern) + value(pattern + 1)) / 2.0
+}
+
+/// A pattern's value in units.
+fn in_units(pattern: u16) -> u128 {
     let (exponent, digits) = (i32::from(pattern >> 10), u128::from(pattern & 0x3ff));
     match exponent {
         0 => digits << (UNIT - 24),
@@ -56,7 +67,7 @@ fn nearest(units: u128) -> u16 {
     let (mut low, mut high) = (0, 0x7c00);
     while low < high {
         let middle = (low + high + 1) / 2;
-        if value(middle) <= units {
+        if in_units(middle) <= units {
             low = middle;
         } else {
             high = middle - 1;
@@ -65,6 +76,6 @@ fn nearest(units: u128) -> u16 {
     if low == 0x7c00 {
         return low;
     }
-    let (below, above) = (units - value(low), value(low + 1) - units);
+    let (below, above) = (units - in_units(low), in_units(low + 1) - units);
     low + u16::from(above < below || above == below && low % 2 == 1)
 }

@@ -83,7 +83,7 @@ pub mod probe {
     }
 
     /// Where the norm stands in a frame.
-    const NORM: std::ops::Range<usize> = 11..13;
+    pub const NORM: std::ops::Range<usize> = 11..13;
 
     /// The published encoder, but for the norm and refusal 10, in which document 02 (K3) replaces it: these are `binary16`'s.
     /// It searches all blocks before it codes the norm, so the indices are its own also where it refuses that.

@@ -1,5 +1,6 @@
 //! Document 01's samples of the work, through the probes: they show that the oracle is wired up as meant.
 
+use oracle::codec::probe::NORM;
 use oracle::inputs::{fitting, Random};
 use oracle::profile::probe::Profile;
 use oracle::{binary16, bitpack, codebook, codec, f16, lloyd, metrics, profile, rotation};
@@ -168,17 +169,17 @@ fn codes() {
     for (input, tied) in [([0.0, 1.0, 0.0, 1.0], 2), ([1.0, 0.0, 0.0, 1.0], 1), ([1.0, 0.0, -1.0, 0.0], 0)] {
         let frame = codec::probe::encode(&input, &opposite, &unit, &good).unwrap();
         let once = codec::probe::encode_rounded_once(&input, &opposite, &unit, &good).unwrap();
-        assert_eq!((once.published_norm, once.tied), (Some([frame[11], frame[12]]), tied));
+        assert_eq!((once.published_norm, once.tied), (frame[NORM].try_into().ok(), tied));
         assert_eq!(once.frame, frame);
     }
     // A norm just above 1 + 2^-11, and one just under 65,520, which two roundings take to infinity.
     let once = |input: &[f32]| codec::probe::encode_rounded_once(input, &codewords, &unit, &good);
     let above = once(&[1.0 + 1.0 / 2048.0, 1.0 / 524_288.0, 0.0, 0.0]).unwrap();
-    assert_eq!((&above.frame[11..13], above.published_norm), (&[0x01, 0x3c][..], Some([0x00, 0x3c])));
+    assert_eq!((&above.frame[NORM], above.published_norm), (&[0x01, 0x3c][..], Some([0x00, 0x3c])));
     let under = once(&[65_519.996, 22.62, 0.0, 0.0]).unwrap();
-    assert_eq!((&under.frame[11..13], under.published_norm), (&[0xff, 0x7b][..], None));
+    assert_eq!((&under.frame[NORM], under.published_norm), (&[0xff, 0x7b][..], None));
     let same = encode(&[65_519.996 / 2.0, 22.62 / 2.0, 0.0, 0.0]).unwrap();
-    assert_eq!((&under.frame[..11], &under.frame[13..]), (&same[..11], &same[13..]));
+    assert_eq!((&under.frame[..NORM.start], &under.frame[NORM.end..]), (&same[..NORM.start], &same[NORM.end..]));
     assert_eq!(refusal(once(&[65_520.0, 0.0, 0.0, 0.0])), (10, vec![]));
     let header = codec::probe::to_compact_bytes(2, 2, &[0, 0x3c], &[0]);
     assert_eq!(refusal(codec::probe::decode(&header, &codewords, &unit, &good)), (17, vec![]));
@@ -250,9 +251,8 @@ fn binary16_as_the_compiler_has_it() {
         assert_eq!(binary16::from_f64(x), expected, "{x:e}");
     };
     for bits in 0..0x7c00 {
-        let low = f64::from(f16(bits).to_f32());
-        let high = if bits == 0x7bff { 65_536.0 } else { f64::from(f16(bits + 1).to_f32()) };
-        for center in [low, (low + high) / 2.0] {
+        assert_eq!(binary16::value(bits), f64::from(f16(bits).to_f32()));
+        for center in [binary16::value(bits), binary16::middle(bits)] {
             for step in [0, 1, 2, 1 << 11, 1 << 12, 1 << 28, 1 << 29, 1 << 30] {
                 for x in [center.to_bits().saturating_sub(step), center.to_bits() + step].map(f64::from_bits) {
                     same(x);

@@ -66,9 +66,10 @@ const ENCODE: &str = "\
 nuqtelya encode --codebook FILE --vectors FILE --out FILE
 
 Writes a code for each vector (binary32 values, as many for each as the codebook's vectors have). A vector that cannot
-be encoded, as one of zeros, is refused with its place, counted from 0, and nothing is written. Its norm is stored as the
-nearest binary16 value, rounded once from binary64, ties to even; where that is zero or infinite, which is up to 2^-25 and
-from 65520 on, it is refused too.
+be encoded, as one of zeros, is refused with its place, counted from 0, and nothing is written.
+
+A vector's norm is stored as the nearest binary16 value, rounded once from binary64, ties to even. Where that is zero or
+infinite, as for norms up to 2^-25 and from 65520 on, the vector is refused.
 
 At the end it says for how many blocks the choice of the codeword was a toss, since another codeword had the same
 distance (as it is rounded), and in how many of the codes. The first of them is stored; the codes do not tell.

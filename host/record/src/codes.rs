@@ -104,7 +104,7 @@ fn small() -> Coding {
         &[1.0, 2.0, 3.0, 4.0],
         // A norm just above 1 + 2^-11, which two roundings would take to 1.
         &[1.0 + 1.0 / 2048.0, 1.0 / 524_288.0, 0.0, 0.0],
-        // Norms of 65,504, just under 65,520, which two roundings would refuse, and the least that is too large.
+        // A norm of 65,504; one just under 65,520, which two roundings would refuse; the least that is too large.
         &[65_504.0, 0.0, 0.0, 0.0],
         &[65_519.996, 22.62, 0.0, 0.0],
         &[65_520.0, 0.0, 0.0, 0.0],

@@ -2,12 +2,13 @@
 //! document 02's (K3), from the conversion on whole numbers; all else is the Rust's.
 
 use super::codes::{faulty, largest, Setup, FAULTS};
-use super::norm::{middle, ANOTHER_BIT, NOT_REFUSED};
+use super::norm::{ANOTHER_BIT, NOT_REFUSED};
 use super::profile::{published, validity};
 use crate::inputs;
 use crate::rules::{grid, length};
 use crate::run::{lent, Outcome, Run};
 use beside::proved;
+use oracle::binary16::middle;
 use oracle::codec::probe::{self, Encoded};
 use oracle::inputs::Random;
 use oracle::Answer;
@@ -32,7 +33,7 @@ pub fn run(run: &mut Run) -> Outcome {
     for _ in 0..run.rounds(2_000) {
         repeated(run)?;
     }
-    // Every middle, and the two beside which a norm has no pattern more often.
+    // Every middle and, more often, the two beside which there is no pattern.
     for bits in (0..0x7c00).chain([0, 0x7bff].repeat(200)) {
         beside_middle(run, bits)?;
     }
@@ -90,8 +91,8 @@ fn repeated(run: &mut Run) -> Outcome {
     encodings(run, &setup, 4)
 }
 
-/// A norm beside the middle from a binary16 to the next, nearer to it than binary32 can tell: a first value that is hardly
-/// less, and a small one that makes up the rest.
+/// A norm beside the middle from a binary16 to the next, mostly nearer to it than binary32 can tell: a first value that is
+/// hardly less, and a small one that makes up the rest.
 fn beside_middle(run: &mut Run, bits: u16) -> Outcome {
     let random = &mut run.random;
     let (blocks, k, n) = (2 + random.index(3), 1 + random.index(3), 2 + random.index(6));
@@ -195,7 +196,7 @@ fn case(run: &mut Run, setup: &Setup, input: &[f32], output_len: usize, work_len
     let expected = match expected(setup, input, output_len, work_len) {
         Ok(Encoded { frame, tied, published_norm }) => {
             match published_norm {
-                Some(norm) if norm != frame[11..13] => run.see(ANOTHER_BIT),
+                Some(norm) if norm != frame[probe::NORM] => run.see(ANOTHER_BIT),
                 Some(_) => {}
                 None => run.see(NOT_REFUSED),
             }

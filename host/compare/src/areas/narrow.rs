@@ -1,11 +1,11 @@
 //! Narrowing against the processor (binary64 to binary32) and the oracle's binary16 on whole numbers, and widening from
 //! binary16.
 
-use super::norm::{middle, value};
 use crate::inputs;
 use crate::run::{Outcome, Run};
 use beside::proved;
-use oracle::{binary16, f16};
+use oracle::binary16::{self, middle, value};
+use oracle::f16;
 use std::ops::RangeInclusive;
 
 pub fn run(run: &mut Run) -> Outcome {
@@ -34,17 +34,15 @@ fn to_binary16(run: &mut Run) -> Outcome {
     }
     for bits in 0..0x7c00 {
         for center in [value(bits), middle(bits)].map(f64::to_bits) {
-            for step in [0, 1, 2, 1 << 28, 1 << 29, 2 << 29, 3 << 29] {
-                for near in [center + step, center.saturating_sub(step)].map(f64::from_bits) {
-                    any(run, near)?;
-                    any(run, -near)?;
-                }
+            both(run, f64::from_bits(center))?;
+            for step in [1, 2, 1 << 28, 1 << 29, 2 << 29, 3 << 29] {
+                both(run, f64::from_bits(center + step))?;
+                both(run, f64::from_bits(center.saturating_sub(step)))?;
             }
         }
     }
     for x in [65_536.0, f64::MAX, f64::INFINITY, f64::NAN, f64::MIN_POSITIVE, 5e-324] {
-        any(run, x)?;
-        any(run, -x)?;
+        both(run, x)?;
     }
     for _ in 0..run.rounds(1_000_000) {
         let bits = run.random.bits();
@@ -53,6 +51,12 @@ fn to_binary16(run: &mut Run) -> Outcome {
         any(run, f64::from_bits(bits & 0x800f_ffff_ffff_ffff | exponent << 52))?;
     }
     Ok(())
+}
+
+/// Of either sign.
+fn both(run: &mut Run, x: f64) -> Outcome {
+    any(run, x)?;
+    any(run, -x)
 }
 
 fn any(run: &mut Run, x: f64) -> Outcome {

@@ -4,8 +4,8 @@
 use crate::inputs;
 use crate::run::{Outcome, Run};
 use beside::proved;
+use oracle::binary16::{self, middle, value};
 use oracle::codec::probe;
-use oracle::{binary16, f16};
 
 pub fn run(run: &mut Run) -> Outcome {
     // Every payload of two bytes, and every other length.
@@ -56,19 +56,6 @@ pub fn run(run: &mut Run) -> Outcome {
 // How a norm's pattern differs from the published one.
 pub const ANOTHER_BIT: &str = "norms with another last bit than the Rust's";
 pub const NOT_REFUSED: &str = "norms that the Rust refuses";
-
-/// What a pattern without a sign stands for. The steps of the format go on beyond its largest value.
-pub fn value(bits: u16) -> f64 {
-    match bits {
-        0x7c00 => 65_536.0,
-        _ => f64::from(f16(bits).to_f32()),
-    }
-}
-
-/// The middle from a pattern to the next.
-pub fn middle(bits: u16) -> f64 {
-    (value(bits) + value(bits + 1)) / 2.0
-}
 
 fn encode(run: &mut Run, norm: f64) -> Outcome {
     let expected = binary16::norm(norm);
