@@ -65,6 +65,7 @@ range_all xs bound e i = ⊎_elim (λ h. h.1 i) (λ h. absurd (never _ _ _ (sym 
 
 -- what a size that is completed says
 pub record Fitting (count w size : ℕ) : Type 0 where
+  pub some : 1 ≤ w
   pub narrow : w ≤ 32
   pub fits : count * w + 7 < 2 ^ 64
   pub is : size ≡ bytes_for (count * w)
@@ -76,7 +77,7 @@ size_completed count w size e =
     let bits = passed _ _ _ _ size width.1 in
     let within = both (leb 1 w) (leb w 32) (not-false _ width.0) in
     let few = ltb-false (2 ^ 64 - 1) (count * w + 7) bits.0 in
-    record { narrow = leb-true w 32 within.1; fits = omega arith; is = sym (completed_same _ _ bits.1) }
+    record { some = leb-true 1 w within.0; narrow = leb-true w 32 within.1; fits = omega arith; is = sym (completed_same _ _ bits.1) }
 
 -- the largest index of width w, as the program finds it
 abbrev pub largest : ℕ → ℕ

@@ -40,23 +40,28 @@ field_whole bytes b small =
     let z : 8 * b + 0 ≡ 8 * b = omega arith in
     (rw z at (field_byte bytes b 0 8 (omega arith))) ∙ rw div-one (mod-eq_of_lt small)
 
--- the padding after n bits: none after whole bytes, else what stands above the used bits of the last byte
-pub padding_none : (bytes : List ℕ) (n : ℕ) → length bytes ≡ bytes_for n → n % 8 ≡ 0 → padding_from bytes n ≡ 0
-padding_none bytes n len e =
+-- a byte from its bit k on
+pub field_rest : (bytes : List ℕ) (b k : ℕ) → k ≤ 8 → get_or bytes b 0 < 256 → get_or bytes b 0 / 2 ^ k ≡ field (stream_bit bytes) (8 * b + k) (8 - k)
+field_rest bytes b k l small =
+    let whole : 8 - k + k ≡ 8 = omega arith in
+    let byte : get_or bytes b 0 < 2 ^ (8 - k + k) = rw whole small in
+    sym (field_byte bytes b k (8 - k) (omega arith) ∙ mod-eq_of_lt (shr_lt (8 - k) k byte))
+
+-- the padding after n bits: none where there is no byte, else the last byte from the bit on at which the n end
+pub padding_none : (bytes : List ℕ) (n : ℕ) → length bytes ≡ 0 → padding_from bytes n ≡ 0
+padding_none bytes n len =
     let z : 8 * length bytes - n ≡ 0 = omega arith in
     rw z (field-none (stream_bit bytes) n)
 
-pub padding_last : (bytes : List ℕ) (n : ℕ) → length bytes ≡ bytes_for n → (n % 8 ≡ 0 → ⊥) → get_or bytes (n / 8) 0 < 256
-    → padding_from bytes n ≡ get_or bytes (n / 8) 0 / 2 ^ (n % 8)
+pub padding_last : (bytes : List ℕ) (n : ℕ) → length bytes ≡ bytes_for n → (length bytes ≡ 0 → ⊥) → get_or bytes (length bytes - 1) 0 < 256
+    → padding_from bytes n ≡ get_or bytes (length bytes - 1) 0 / 2 ^ (n - 8 * (length bytes - 1))
 padding_last bytes n len some small =
-    let place : n ≡ 8 * (n / 8) + n % 8 = omega arith in
-    let size : 8 * length bytes - n ≡ 8 - n % 8 = omega arith in
-    let whole : 8 - n % 8 + n % 8 ≡ 8 = omega arith in
-    let byte : get_or bytes (n / 8) 0 < 2 ^ (8 - n % 8 + n % 8) = rw whole small in
+    let last : ℕ = length bytes - 1 in
+    let place : n ≡ 8 * last + (n - 8 * last) = omega arith in
+    let size : 8 * length bytes - n ≡ 8 - (n - 8 * last) = omega arith in
     ap (λ (m : ℕ). field (stream_bit bytes) n m) size
-    ∙ ap (λ (p : ℕ). field (stream_bit bytes) p (8 - n % 8)) place
-    ∙ field_byte bytes (n / 8) (n % 8) (8 - n % 8) (omega arith)
-    ∙ mod-eq_of_lt (shr_lt (8 - n % 8) (n % 8) byte)
+    ∙ ap (λ (p : ℕ). field (stream_bit bytes) p (8 - (n - 8 * last))) place
+    ∙ sym (field_rest bytes last (n - 8 * last) (omega arith) small)
 
 pub packed_binary : (xs : List ℕ) (w p : ℕ) → packed_bit xs w p < 2
 unfolding packed_bit

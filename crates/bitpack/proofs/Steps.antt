@@ -1,4 +1,4 @@
--- The steps of a reader and of a writer: a byte is loaded, a field taken; a field is added, a byte put out. And what a
+-- The steps of a reader and of a writer: bits are held, a field taken; a field is added, a byte put out. And what a
 -- step asks follows from where the reader or the writer stands. Assumes nothing.
 use Prim.Native.Nat.{ℕ, suc, ◌+◌, ◌*◌, ◌-◌, ◌/◌, ◌%◌, ◌^◌, ◌<◌, ◌≤◌}
 use mathlib.Core.Path.{◌≡◌, refl, sym, ap, ◌∙◌}
@@ -12,7 +12,7 @@ use lib.Bits.{bit_and, and_mask}
 use Rattle.slices.specs.Lists.{filled}
 use Rattle.slices.proofs.TabulateLaw.{length-tabulate, filled_with}
 use Rattle.bitpack.specs.Layout.{field, stream_bit, byte_of, bytes_for}
-use Rattle.bitpack.specs.Cursor.{Reading, ReaderAt, Pullable, PulledAt, Writing, WriterAt, Pushable, Finishable}
+use Rattle.bitpack.specs.Cursor.{ReaderAt, Pullable, PulledAt, Writing, WriterAt, Pushable, Finishable}
 use Rattle.bitpack.specs.declared.BitReader.{BitReader}
 use Rattle.bitpack.specs.declared.BitWriter.{BitWriter}
 use Rattle.bitpack.specs.declared.packed.PackedIndices.{PackedIndices}
@@ -41,59 +41,27 @@ next_place i w = rw add-one (suc-mul i w)
 pub next_within : (i n w : ℕ) → i < n → i * w + w ≤ n * w
 next_within i n w l = omega (arith, mul-le-mul_right {m = suc i} {n = n} w l, suc-mul i w)
 
--- the next byte, loaded above the bits that are held
-pub reading_load : (bytes : List ℕ) (p at acc have : ℕ) → Reading bytes p at acc have → get_or bytes at 0 < 256
-    → Reading bytes p (at + 1) (acc + get_or bytes at 0 * 2 ^ have) (have + 8)
-reading_load bytes p at acc have r small =
-    let place = r.place in
-    record {
-      place = omega arith;
-      held = rw (field_add (stream_bit bytes) p have 8, ← r.held, ← r.place, field_whole bytes at small);
-    }
+-- the bits from p on that a reader holds, and the next byte above them
+pub held_next : (bytes : List ℕ) (p b held have : ℕ) → held ≡ field (stream_bit bytes) p have → p + have ≡ 8 * b → get_or bytes b 0 < 256
+    → held + get_or bytes b 0 * 2 ^ have ≡ field (stream_bit bytes) p (have + 8)
+held_next bytes p b held have e place small = rw (field_add (stream_bit bytes) p have 8, ← e, place, field_whole bytes b small)
 
--- w bits, taken off the low end of those held
-reading_value : (bytes : List ℕ) (p at acc have w : ℕ) → Reading bytes p at acc have → w ≤ have → acc % 2 ^ w ≡ field (stream_bit bytes) p w
-reading_value bytes p at acc have w r l =
-    let e : have ≡ w + (have - w) = omega arith in
-    rw (r.held, e) (field_mod (stream_bit bytes) p w (have - w) (stream_binary bytes))
+pub held_small : (bytes : List ℕ) (p held have : ℕ) → held ≡ field (stream_bit bytes) p have → held < 2 ^ have
+held_small bytes p held have e = rw e (field_lt (stream_bit bytes) p have (stream_binary bytes))
 
-reading_rest : (bytes : List ℕ) (p at acc have w : ℕ) → Reading bytes p at acc have → w ≤ have → Reading bytes (p + w) at (acc / 2 ^ w) (have - w)
-reading_rest bytes p at acc have w r l =
-    let place = r.place in
-    let e : w + (have - w) ≡ have = omega arith in
-    record {
-      place = omega arith;
-      held = rw r.held (ap (λ (n : ℕ). field (stream_bit bytes) p n / 2 ^ w) (sym e) ∙ field_div (stream_bit bytes) p w (have - w) (stream_binary bytes));
-    }
-
-pub reading_small : (bytes : List ℕ) (p at acc have : ℕ) → Reading bytes p at acc have → acc < 2 ^ have
-reading_small bytes p at acc have r = rw r.held (field_lt (stream_bit bytes) p have (stream_binary bytes))
-
--- a value taken off below the bits that are held is the next w bits
-pub pulled : {bytes : List ℕ} {p w : ℕ} {reader : BitReader} → ReaderAt bytes p reader → (at acc have : ℕ)
-    → ((p : ℕ) → Reading reader.bytes.now p reader.at reader.acc reader.have → Reading reader.bytes.now p at acc have)
-    → w ≤ 32 → w ≤ have → have < w + 8
-    → PulledAt bytes p w (bit_and acc (1 * 2 ^ w % 18446744073709551616 - 1))
-    (record { bytes = reader.bytes; at = at; acc = acc / 2 ^ w; have = have - w })
-pulled {bytes} {p} {w} {reader} r at acc have loaded narrow l few =
-    let now : Reading bytes p at acc have = rw r.of at (loaded p (rw r.of r.reading)) in
-    record {
-      value_is = rw (masked acc w narrow) (reading_value bytes p at acc have w now l);
-      next = record { of = r.of; few = omega arith; reading = reading_rest bytes p at acc have w now l };
-    }
+-- w of them, taken off the low end
+pub held_taken : (bytes : List ℕ) (p held have w : ℕ) → held ≡ field (stream_bit bytes) p have → w ≤ 32 → w ≤ have
+    → bit_and held (1 * 2 ^ w % 18446744073709551616 - 1) ≡ field (stream_bit bytes) p w
+held_taken bytes p held have w e narrow l =
+    let split : have ≡ w + (have - w) = omega arith in
+    masked held w narrow ∙ rw (e, split) (field_mod (stream_bit bytes) p w (have - w) (stream_binary bytes))
 
 -- along a packing, before index i of it: what a pull asks
 pub pullable : (packed : PackedIndices) (i : ℕ) {reader : BitReader} → ReaderAt packed.bytes.now (i * packed.width) reader → i < packed.count
     → Pullable packed.width reader
 pullable packed i {reader} r l =
-    let place = r.reading.place in
     let last = next_within i packed.count packed.width l in
-    record {
-      few = r.few;
-      small = reading_small packed.bytes.now (i * packed.width) reader.at reader.acc reader.have r.reading;
-      narrow = packed.narrow;
-      enough = rw r.of (omega (arith, packed.whole));
-    }
+    record { within = r.within; some = packed.some; narrow = packed.narrow; enough = rw r.of (omega (arith, r.place, packed.whole)) }
 
 -- and where it leaves the reader: before the next index
 pub next_index : (packed : PackedIndices) (i : ℕ) {value : ℕ} {reader : BitReader} → PulledAt packed.bytes.now (i * packed.width) packed.width value reader

@@ -5,23 +5,18 @@ use Rattle.bitpack.specs.declared.BitReader.{BitReader}
 use Rattle.bitpack.specs.declared.BitWriter.{BitWriter}
 use Rattle.bitpack.specs.Layout.{field, stream_bit, byte_of}
 
--- `have` bits from p on are held, and `at` is the byte after them
-pub record Reading (bytes : List ℕ) (p at acc have : ℕ) : Type 0 where
-  pub place : 8 * at ≡ p + have
-  pub held : acc ≡ field (stream_bit bytes) p have
-
 -- the reader stands at bit p: for indices of width w, at i * w before index i
 pub record ReaderAt (bytes : List ℕ) (p : ℕ) (reader : BitReader) : Type 0 where
   pub of : reader.bytes.now ≡ bytes
-  pub few : reader.have < 8
-  pub reading : Reading bytes p reader.at reader.acc reader.have
+  pub within : reader.bit < 8
+  pub place : 8 * reader.byte + reader.bit ≡ p
 
 -- what a pull of w bits asks
 pub record Pullable (w : ℕ) (reader : BitReader) : Type 0 where
-  pub few : reader.have < 8
-  pub small : reader.acc < 2 ^ reader.have
+  pub within : reader.bit < 8
+  pub some : 1 ≤ w
   pub narrow : w ≤ 32
-  pub enough : 8 * reader.at + w ≤ 8 * length reader.bytes.now + reader.have
+  pub enough : 8 * reader.byte + reader.bit + w ≤ 8 * length reader.bytes.now
 
 -- what a pull of w bits at p gives: their value, and the reader after them
 pub record PulledAt (bytes : List ℕ) (p w value : ℕ) (reader : BitReader) : Type 0 where

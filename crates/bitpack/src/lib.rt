@@ -15,14 +15,13 @@ ghost use Rattle.bitpack.specs.Cursor.{ReaderAt, Pullable, PulledAt, WriterAt, P
 use error::{PackingSite, Refusal, Slice};
 pub use packed::PackedIndices;
 
-// A place in a packed byte string, made by `new` and moved by `pull`: `at` is the
-// next byte to read, `acc` the `have` bits that were read and not yet handed out.
+// A place in a packed byte string, made by `new` and moved by `pull`: bit number
+// `bit` of byte number `byte`, counted side by side so that no place is divided.
 #[derive(Clone, Copy)]
 pub struct BitReader<'a> {
     bytes: &'a [u8],
-    at: usize,
-    acc: u64,
-    have: u64,
+    byte: usize,
+    bit: u64,
 }
 
 // A place in a byte string that is being packed, made by `new` and moved by
@@ -36,20 +35,19 @@ pub struct BitWriter {
 
 impl<'a> BitReader<'a> {
     // At the start of a byte string.
-    #[tactic(auto, unfolding(crate::specs::Layout::field, crate::specs::Layout::bits))]
     pub fn new(bytes: &'a [u8]) -> BitReader<'a>
         ensures { ReaderAt bytes.now 0 result }
     {
         BitReader {
             bytes,
-            at: 0,
-            acc: 0,
-            have: 0,
+            byte: 0,
+            bit: 0,
         }
     }
 
-    // The next `width` bits. Public only for the codec.
-    #[tactic(auto, using(crate::proofs::Steps::shifted, crate::proofs::Steps::load_small, crate::proofs::Steps::reading_load))]
+    // The next `width` bits: the rest of this byte, and whole bytes above it as long
+    // as too few bits are held. Public only for the codec.
+    #[tactic(auto, using(crate::proofs::Steps::shifted, crate::proofs::Steps::load_small, crate::proofs::Packing::field_rest, crate::proofs::Steps::held_next, crate::proofs::Steps::held_small, crate::proofs::Steps::held_taken))]
     pub fn pull(&mut self, width: u8) -> u32
         requires { Pullable width self.old }
         ensures { (bytes : List ℕ) (p : ℕ) → ReaderAt bytes p self.old
@@ -57,21 +55,25 @@ impl<'a> BitReader<'a> {
     {
         let w = width as u64;
         let bytes = self.bytes;
-        let mut at = self.at;
-        let mut acc = self.acc;
-        let mut have = self.have;
+        let mut byte = self.byte;
+        let mut held = (bytes[byte] as u64) >> self.bit;
+        let mut have = 8 - self.bit;
         // Kept: it stops at so many bits, and no list or range is walked to its end.
         while have < w {
-            acc += (bytes[at] as u64) << have;
+            byte += 1;
+            held += (bytes[byte] as u64) << have;
             have += 8;
-            at += 1;
         }
         let mask = (1u64 << w) - 1;
-        let value = (acc & mask) as u32;
-        self.at = at;
-        self.acc = acc >> w;
-        self.have = have - w;
-        value
+        // Of the last byte all is handed out but the bits that are too many.
+        let mut bit = 8 - (have - w);
+        if bit == 8 {
+            byte += 1;
+            bit = 0;
+        }
+        self.byte = byte;
+        self.bit = bit;
+        (held & mask) as u32
     }
 }
 
@@ -185,23 +187,23 @@ pub fn pack_indices(indices: &[u32], width: u8, output: &mut [u8]) -> Result<(),
     Ok(())
 }
 
-// The value of the bits after the first `total`, in a byte string
-// of the length that these take. Public only for the codec.
+// The value of the bits after the first `total`, in a byte string of the length
+// that these take: what is left over in its last byte. Public only for the codec.
 #[tactic(auto, using(crate::proofs::Packing::padding_none, crate::proofs::Packing::padding_last))]
 pub fn padding(bytes: &[u8], total: u64) -> u64
     requires { length bytes.now ≡ bytes_for total }
     ensures { result ≡ padding_from bytes.now total }
 {
-    let used = total % 8;
-    if used == 0 {
+    let len = bytes.len();
+    if len == 0 {
         return 0;
     }
-    let last = (total / 8) as usize;
-    (bytes[last] as u64) >> used
+    let used = total - 8 * (len as u64 - 1);
+    (bytes[len - 1] as u64) >> used
 }
 
 // The packed indices into the output, which has room for just these.
-#[tactic(auto, using(crate::proofs::Steps::pullable, crate::proofs::Steps::next_index, slices::proofs::TabulateLaw::filled_with), unfolding(slices::specs::Lists::tabulate))]
+#[tactic(auto, using(crate::proofs::Steps::pullable), unfolding(slices::specs::Lists::tabulate))]
 fn read_indices(packed: PackedIndices<'_>, output: &mut [u32])
     requires { length output.old ≡ packed.count }
     ensures { output.new ≡ indices_in packed.entry }

@@ -7,6 +7,7 @@ pub struct PackedIndices<'a> {
     pub bytes: &'a [u8],
     pub width: u8,
     pub count: usize,
+    ghost some: { 1 ≤ width },
     ghost narrow: { width ≤ 32 },
     ghost whole: { count * width ≤ 8 * length bytes.now },
 }

@@ -16,4 +16,4 @@ pub invariant_of-packed : goal.invariant_of-packed
 invariant_of-packed c =
     let sized : length c.index_part.result.now ≡ bytes_for (c.args.frame.block_count * c.args.frame.width) =
     ap length c.index_part.ensures ∙ length_indices c.args.bytes.now (parts_of c.args.bytes.now c.args.frame) c.requires.frame in
-    record { narrow = omega (arith, c.requires.valid.width_most); whole = omega (arith, sized) }
+    record { some = omega (arith, c.requires.valid.width_least); narrow = omega (arith, c.requires.valid.width_most); whole = omega (arith, sized) }

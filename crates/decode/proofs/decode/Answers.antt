@@ -24,7 +24,7 @@ invariant_of-packed c =
     let passes : Readable call parts = readable_accepted call parts c.in_ok-norm.norm (sym c.in_ok-norm.ensures) in
     let sized : length c.index_part.result.now ≡ bytes_for (f.block_count * f.width) =
     ap length c.index_part.ensures ∙ length_indices c.args.bytes.now parts (sym c.in_ok-frame.ensures.result_value) in
-    record { narrow = omega (arith, passes.width, passes.valid.width_most); whole = omega (arith, sized) }
+    record { some = omega (arith, passes.width, passes.valid.width_least); narrow = omega (arith, passes.width, passes.valid.width_most); whole = omega (arith, sized) }
 
 pub reconstruct-requires : goal.reconstruct-requires
 reconstruct-requires c =
