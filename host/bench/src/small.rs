@@ -11,6 +11,8 @@ use std::hint::black_box;
 /// Indices of a code of 1,024 values in blocks of 16, with 4,096 codewords.
 const WIDTH: u8 = 12;
 const COUNT: usize = 64;
+/// Widths that are whole bytes, and others, below and above a byte.
+const READ_WIDTHS: [u8; 6] = [1, 5, 8, 12, 20, 32];
 const LEN: usize = 1024;
 
 pub fn rows(bench: &mut Bench) {
@@ -87,11 +89,28 @@ fn profiles(bench: &mut Bench) {
     );
 }
 
+/// So many indices of a width at random, packed.
+fn packed(bench: &mut Bench, width: u8) -> (Vec<u32>, Vec<u8>) {
+    let indices: Vec<u32> = (0..COUNT).map(|_| bench.random.below(1 << width) as u32).collect();
+    let mut packed = vec![0; COUNT * usize::from(width) / 8];
+    nuqtelya::pack_indices(&indices, width, &mut packed).expect("packed indices");
+    (indices, packed)
+}
+
 fn bytes(bench: &mut Bench) {
+    for width in READ_WIDTHS {
+        let (_, packed) = packed(bench, width);
+        let mut unpacked = vec![0; COUNT];
+        pair(
+            bench,
+            "unpack_indices",
+            &format!("{COUNT} indices of {width} bits"),
+            || nuqtelya::unpack_indices(&packed, COUNT as u64, width, &mut unpacked),
+            || bitpack::probe::unpack_indices(&packed, COUNT as u64, width),
+        );
+    }
     let shape = format!("{COUNT} indices of {WIDTH} bits");
-    let indices: Vec<u32> = (0..COUNT).map(|_| bench.random.below(1 << WIDTH) as u32).collect();
-    let mut packed = vec![0; COUNT * usize::from(WIDTH) / 8];
-    nuqtelya::pack_indices(&indices, WIDTH, &mut packed).expect("packed indices");
+    let (indices, packed) = packed(bench, WIDTH);
     let mut output = packed.clone();
     pair(
         bench,
@@ -99,14 +118,6 @@ fn bytes(bench: &mut Bench) {
         &shape,
         || nuqtelya::pack_indices(&indices, WIDTH, &mut output),
         || bitpack::probe::pack_indices(&indices, WIDTH),
-    );
-    let mut unpacked = vec![0; COUNT];
-    pair(
-        bench,
-        "unpack_indices",
-        &shape,
-        || nuqtelya::unpack_indices(&packed, COUNT as u64, WIDTH, &mut unpacked),
-        || bitpack::probe::unpack_indices(&packed, COUNT as u64, WIDTH),
     );
     let frame = Frame { width: WIDTH, count: COUNT as u32, norm: &[0, 0x3c], indices: &packed };
     let mut written = vec![0; nuqtelya::HEADER_LEN + 2 + packed.len()];

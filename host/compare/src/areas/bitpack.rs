@@ -7,6 +7,7 @@ use oracle::bitpack::probe;
 
 pub fn run(run: &mut Run) -> Outcome {
     small(run)?;
+    single_bits(run)?;
     for width in 1..=32 {
         for count in 0..40 {
             for _ in 0..run.rounds(20) {
@@ -42,6 +43,27 @@ fn small(run: &mut Run) -> Outcome {
             }
             for byte in 0..=u8::MAX {
                 unpack(run, &[byte], count, width, count as usize)?;
+            }
+        }
+    }
+    Ok(())
+}
+
+/// Each bit of a packing alone, and all but it: at every width, over indices that start at each bit of a byte at which one
+/// can. A padding bit is one of them.
+fn single_bits(run: &mut Run) -> Outcome {
+    for width in 1..=32u8 {
+        for count in 1..=9usize {
+            let len = packed_len(count, width);
+            for bit in 0..8 * len {
+                let mut bytes = vec![0u8; len];
+                bytes[bit / 8] = 1 << (bit % 8);
+                unpack(run, &bytes, count as u64, width, count)?;
+                // All others, but no padding.
+                let mut others: Vec<u8> = bytes.iter().map(|byte| !byte).collect();
+                let used = count * usize::from(width) - 8 * (len - 1);
+                others[len - 1] &= u8::MAX >> (8 - used);
+                unpack(run, &others, count as u64, width, count)?;
             }
         }
     }
