@@ -47,7 +47,7 @@ field_rest bytes b k l small =
     let byte : get_or bytes b 0 < 2 ^ (8 - k + k) = rw whole small in
     sym (field_byte bytes b k (8 - k) (omega arith) ∙ mod-eq_of_lt (shr_lt (8 - k) k byte))
 
--- the padding after n bits: none where there is no byte, else the last byte from the bit on at which the n end
+-- the padding after n bits: none where there is no byte, else the last byte from the bit on at which the n bits end
 pub padding_none : (bytes : List ℕ) (n : ℕ) → length bytes ≡ 0 → padding_from bytes n ≡ 0
 padding_none bytes n len =
     let z : 8 * length bytes - n ≡ 0 = omega arith in

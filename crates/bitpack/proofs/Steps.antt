@@ -41,15 +41,16 @@ next_place i w = rw add-one (suc-mul i w)
 pub next_within : (i n w : ℕ) → i < n → i * w + w ≤ n * w
 next_within i n w l = omega (arith, mul-le-mul_right {m = suc i} {n = n} w l, suc-mul i w)
 
--- the bits from p on that a reader holds, and the next byte above them
+-- the next byte, above the bits from p on that a reader holds
 pub held_next : (bytes : List ℕ) (p b held have : ℕ) → held ≡ field (stream_bit bytes) p have → p + have ≡ 8 * b → get_or bytes b 0 < 256
     → held + get_or bytes b 0 * 2 ^ have ≡ field (stream_bit bytes) p (have + 8)
 held_next bytes p b held have e place small = rw (field_add (stream_bit bytes) p have 8, ← e, place, field_whole bytes b small)
 
+-- n bits make a value below 2 ^ n
 pub held_small : (bytes : List ℕ) (p held have : ℕ) → held ≡ field (stream_bit bytes) p have → held < 2 ^ have
 held_small bytes p held have e = rw e (field_lt (stream_bit bytes) p have (stream_binary bytes))
 
--- w of them, taken off the low end
+-- the low w of the bits that a reader holds
 pub held_taken : (bytes : List ℕ) (p held have w : ℕ) → held ≡ field (stream_bit bytes) p have → w ≤ 32 → w ≤ have
     → bit_and held (1 * 2 ^ w % 18446744073709551616 - 1) ≡ field (stream_bit bytes) p w
 held_taken bytes p held have w e narrow l =

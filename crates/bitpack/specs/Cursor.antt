@@ -1,4 +1,4 @@
--- What a reader and a writer of a stream of bits hold at bit p of it, and what each step asks. Definitions only.
+-- Where a reader and a writer of a stream of bits stand, at bit p of it, and what each step asks. Definitions only.
 use Rattle.std.specs.Prelude.{ℕ, ◌+◌, ◌*◌, ◌≤◌, ◌<◌, ◌^◌, List, ◌≡◌, length}
 use Rattle.slices.specs.Lists.{filled}
 use Rattle.bitpack.specs.declared.BitReader.{BitReader}

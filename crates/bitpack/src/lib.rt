@@ -65,7 +65,7 @@ impl<'a> BitReader<'a> {
             have += 8;
         }
         let mask = (1u64 << w) - 1;
-        // Of the last byte all is handed out but the bits that are too many.
+        // The top `have - w` bits of the last byte are left for the next pull.
         let mut bit = 8 - (have - w);
         if bit == 8 {
             byte += 1;
