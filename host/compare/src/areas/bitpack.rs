@@ -49,8 +49,8 @@ fn small(run: &mut Run) -> Outcome {
     Ok(())
 }
 
-/// Each bit of a packing alone, and all but it: at every width, over indices that start at each bit of a byte at which one
-/// can. A padding bit is one of them.
+/// Each bit of a packing alone, padding bits too, and all but it: at every width, of one to nine indices, so that they start
+/// at every bit of a byte at which an index of that width can.
 fn single_bits(run: &mut Run) -> Outcome {
     for width in 1..=32u8 {
         for count in 1..=9usize {
