@@ -21,7 +21,9 @@ use Rattle.narrow.specs.Format.{unpacked}
 use Rattle.bitpack.specs.Layout.{bytes_for, stream_bit, packed_bit, packed_bytes, unpacked_indices, padding_from}
 use Rattle.bitpack.proofs.Fields.{field_zero, bit_field}
 use Rattle.bitpack.proofs.Packing.{packed_binary, packed_after, packed_byte, length_packed, unpack_pack}
-use Rattle.compact.specs.Frame.{Parts, parsed, bytes_of}
+use Rattle.slices.specs.Bytes.{bytes_of}
+use Rattle.slices.proofs.BytesLaw.{length_bytes}
+use Rattle.compact.specs.Frame.{Parts, parsed}
 use Rattle.compact.proofs.FrameLaws.{parse_written}
 use Rattle.slices.specs.Limit.{first_not_finite}
 use Rattle.norm.specs.Norm.{norm_bits, norm_value}
@@ -104,16 +106,12 @@ module _ (c : EncodeCall) (frame : List ℕ) where
     count_is : length indices ≡ d / k
     count_is = length_indices (d / k) k n c.codewords (searched d c.matrix c.input (norm_of c.input))
 
-    two_bytes : (b : ℕ) → length (bytes_of 2 b) ≡ 2
-    unfolding bytes_of
-    two_bytes b = refl
-
     pub parses : parsed frame ≡ completed parts
     parses =
         let few : d / k ≤ d = div-le_self d k in
         let most = q.passes.valid.dim_most in
         ap parsed q.frame_is
-        ∙ parse_written w (d / k) (bytes_of 2 q.bits) (packed_bytes indices w) (lt_of_le_of_lt few (lt_of_le_of_lt most (lit< tt))) (rw (two_bytes q.bits) (omega arith))
+        ∙ parse_written w (d / k) (bytes_of 2 q.bits) (packed_bytes indices w) (lt_of_le_of_lt few (lt_of_le_of_lt most (lit< tt))) (rw (length_bytes 2 q.bits) (omega arith))
         (length_packed indices w ∙ ap (λ (z : ℕ). bytes_for (z * w)) count_is)
 
     pub headed : Headed c.profile frame parts
@@ -148,13 +146,7 @@ module _ (c : EncodeCall) (frame : List ℕ) where
 
     -- the norm's two bytes stand for its pattern
     norm_back : norm_value (bytes_of 2 q.bits) ≡ completed (unpacked 11 15 q.bits)
-    unfolding bytes_of
-    norm_back =
-        let b = q.bits in
-        let r = norm_written (norm_of c.input) b q.norm.pattern in
-        let small = r.below in
-        let high : b / 256 % 256 ≡ b / 256 = omega arith in
-        ap (λ (z : ℕ). norm_value (b % 256 ∷ z ∷ [])) high ∙ read_back b r.above r.below
+    norm_back = let r = norm_written (norm_of c.input) q.bits q.norm.pattern in read_back q.bits r.above r.below
 
     reads : readable (decoding_of c frame) parts ≡ completed (unpacked 11 15 q.bits)
     reads = read_norm (decoding_of c frame) parts q.passes.validates checked-lengths q.passes.values_pass checked_indices ∙ norm_back

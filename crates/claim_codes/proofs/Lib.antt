@@ -5,3 +5,4 @@ pub mod NormSizeLaw
 pub mod SearchedLaw
 pub mod LeastLaw
 pub mod CodesLaw
+pub mod ConvertedLaw

@@ -11,7 +11,8 @@ use Rattle.error.specs.Numbers.{completed}
 use Rattle.ieee.specs.Bounds.{NotNegative}
 use Rattle.slices.specs.First.{count_where}
 use Rattle.narrow.specs.Format.{unpacked}
-use Rattle.compact.specs.Frame.{Parts, parsed, bytes_of}
+use Rattle.slices.specs.Bytes.{bytes_of}
+use Rattle.compact.specs.Frame.{Parts, parsed}
 use Rattle.profile.specs.declared.FibQuantProfile.{FibQuantProfile}
 use Rattle.lloyd_search.specs.Distance.{row_of, distance}
 use Rattle.lloyd_search.specs.Nearest.{Least, tied_at}

@@ -1,42 +1,20 @@
--- Laws of the frame: little-endian numbers there and back, the lengths, which answer parsing gives, and that parsing
+-- Laws of the frame: its lengths, which answer parsing gives, and that parsing
 -- and writing undo each other. Assumes nothing.
 use mathlib.Core.Path.{◌≡◌, refl, sym, ap, ◌∙◌, subst}
-use mathlib.Core.Bool.{true}
+use mathlib.Core.Bool.{true, not}
 use mathlib.Core.List.{List, [], ◌∷◌, ◌++◌}
-use Prim.Native.Nat.{ℕ, zero, suc, ◌+◌, ◌*◌, ◌-◌, ◌/◌, ◌%◌, ◌^◌, ◌≤◌, ◌<◌}
-use native.Mathlib.Nat.{div-add-mod}
+use Prim.Native.Nat.{ℕ, ◌+◌, ◌*◌, ◌-◌, ◌^◌, ◌≤◌, ◌<◌}
 use native.Mathlib.Omega.{arith}
+use lib.Dec.{ltb, eqb}
 use lib.ListN.{length, get_or, take, drop, length-append, length-drop, take-append-drop}
 use lib.Seq.{drop-cons, drop_at, take-append_seam, length-take-le, take-add, get_or-take, get_or-drop}
 use borrow.Author.Tests.{ltb-false, eqb-true, not-false, le-ltb, eq-eqb}
-use Rattle.error.specs.Numbers.{completed}
-use Rattle.error.proofs.Outcomes.{both, completed_same, passed}
+use Rattle.error.specs.Numbers.{Value, completed, refused}
+use Rattle.error.proofs.Outcomes.{both, completed_same, passed, never, after_test}
+use Rattle.slices.specs.Bytes.{Bytes, bytes_of, number_of}
+use Rattle.slices.proofs.BytesLaw.{number_of_bytes, bytes_of_number}
 use Rattle.bitpack.specs.Layout.{bytes_for}
-use Rattle.compact.specs.Frame.{bytes_of, number_of, header, frame_of, Parts, magic_in, count_in, norm_length_in, parts_in, parsed, WellFormed}
-
--- ---- numbers, lowest byte first
-
--- every element is a byte
-abbrev pub Bytes : List ℕ → Type 0
-Bytes bs = (i : ℕ) → i < length bs → get_or bs i 0 < 256
-
-pub number_of_bytes : (n v : ℕ) → v < 256 ^ n → number_of (bytes_of n v) ≡ v
-unfolding bytes_of number_of
-number_of_bytes zero v h = omega (arith, h)
-number_of_bytes (suc n) v h = rw (number_of_bytes n (v / 256) (omega arith)) (omega (arith, div-add-mod v 256))
-
-low : (b m : ℕ) → b < 256 → (b + 256 * m) % 256 ≡ b
-low b m h = omega arith
-
-rest : (b m : ℕ) → b < 256 → (b + 256 * m) / 256 ≡ m
-rest b m h = omega arith
-
-pub bytes_of_number : (bs : List ℕ) → Bytes bs → bytes_of (length bs) (number_of bs) ≡ bs
-unfolding bytes_of number_of
-bytes_of_number [] h = refl
-bytes_of_number (b ∷ bs) h =
-    let hb : b < 256 = h 0 (omega arith) in
-    rw (low b (number_of bs) hb, rest b (number_of bs) hb, bytes_of_number bs (λ i l. h (suc i) (omega arith)))
+use Rattle.compact.specs.Frame.{header, frame_of, Parts, magic_in, count_in, norm_length_in, parts_in, parsed, WellFormed}
 
 -- ---- the fields of a header, byte by byte
 
@@ -175,3 +153,26 @@ write_parsed bs p h e =
     let w = parsed_inverse bs p e in
     rw (w.1, length_norm bs w.0, header_in bs h w.0)
     (sym (ap (λ (l : List ℕ). l ++ drop (11 + norm_length_in bs) bs) (sym (take-add 11 (norm_length_in bs) bs)) ∙ take-append-drop (11 + norm_length_in bs) bs))
+
+-- the bytes of what parses
+pub length_parsed : (bs : List ℕ) (p : Parts) → parsed bs ≡ completed p → length bs ≡ 11 + length p.norm + length p.indices
+length_parsed bs p e =
+    let w = parsed_inverse bs p e in
+    rw (w.1, length_norm bs w.0, length-drop (11 + norm_length_in bs) bs) (omega (arith, w.0.norm_within))
+
+-- the norm's are bytes where all are
+pub bytes_norm : (bs : List ℕ) (p : Parts) → Bytes bs → parsed bs ≡ completed p → Bytes p.norm
+bytes_norm bs p h e =
+    let w = parsed_inverse bs p e in
+    subst (λ (q : Parts). Bytes q.norm) (sym w.1) (part_bytes bs 11 (norm_length_in bs) h w.0.norm_within).1
+
+-- parsing refuses by no number above 8
+pub parsed_not : (bs : List ℕ) (m : ℕ) (us : List Value) → 8 < m → parsed bs ≡ refused m us → ⊥
+unfolding parsed
+parsed_not bs m us h e =
+    let s1 = after_test m us (ltb (length bs) 11) 8 _ _ h e in
+    let s2 = after_test m us (not (magic_in bs)) 8 _ _ h s1 in
+    let s3 = after_test m us (not (eqb (get_or bs 3 0) 1)) 8 _ _ h s2 in
+    let s4 = after_test m us (ltb (length bs) (11 + norm_length_in bs)) 8 _ _ h s3 in
+    let s5 = after_test m us (not (eqb (length bs - (11 + norm_length_in bs)) (bytes_for (count_in bs * get_or bs 4 0)))) 8 _ _ h s4 in
+    never m us (parts_in bs) (sym s5)

@@ -1,22 +1,13 @@
 -- The compact frame, from its layout: 0x46 0x42 0x31 0x01, width (1 byte), block count
 -- (4), norm length (2), all little-endian, then the norm and the packed indices. Bytes
 -- are numbers below 256. Definitions only; their laws are in proofs/FrameLaws.antt.
-use Rattle.std.specs.Prelude.{ℕ, zero, suc, ◌+◌, ◌*◌, ◌-◌, ◌/◌, ◌%◌, ◌≤◌, ◌≡◌, Bool, true, cond, not, ◌&&◌, List, [], ◌∷◌, ◌++◌, ltb, eqb, length, get_or, take, drop, Result, Ok, Err}
+use Rattle.std.specs.Prelude.{ℕ, ◌+◌, ◌*◌, ◌-◌, ◌≤◌, ◌≡◌, Bool, true, cond, not, ◌&&◌, List, [], ◌∷◌, ◌++◌, ltb, eqb, length, get_or, take, drop, Result, Ok, Err}
 use Rattle.error.specs.Names.{frame_magic_site, frame_version_site, index_length_site, norm_cut_off_site, norm_slice, output_slice, short_frame_site}
 use Rattle.error.specs.declared.Refusal.{Refusal}
 use Rattle.error.specs.Numbers.{Outcome, completed, refused, whole, refusal}
+use Rattle.slices.specs.Bytes.{bytes_of, number_of}
 use Rattle.bitpack.specs.Layout.{bytes_for}
 use Rattle.compact.specs.declared.CompactFrame.{CompactFrame}
-
--- the n bytes of a number, lowest first
-unfoldable pub bytes_of : ℕ → ℕ → List ℕ
-bytes_of zero v = []
-bytes_of (suc n) v = v % 256 ∷ bytes_of n (v / 256)
-
--- the number of some bytes, lowest first
-unfoldable pub number_of : List ℕ → ℕ
-number_of [] = 0
-number_of (b ∷ bs) = b + 256 * number_of bs
 
 -- the first 11 bytes
 unfoldable pub header : ℕ → ℕ → ℕ → List ℕ

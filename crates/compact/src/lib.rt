@@ -1,13 +1,15 @@
-// The compact frame: its bytes written into a lent buffer, and parsed where they lie. specs/Frame.antt has the layout.
+// The compact frame: its bytes written into a lent buffer, parsed where they lie, and held to what is expected of them.
+// specs/Frame.antt has the layout.
 #![tactic(auto)]
 
 ghost use Rattle.std.specs.Prelude.{◌≡◌, ◌++◌, ◌+◌, ◌*◌, ◌≤◌, ◌<◌, length, take, drop};
-ghost use Rattle.error.specs.Numbers.{outcome, if_completed};
+ghost use Rattle.error.specs.Numbers.{outcome, completed, if_completed};
 ghost use Rattle.bitpack.specs.Layout.{bytes_for};
 ghost use Rattle.compact.specs.Frame.{header, frame_of};
-ghost use Rattle.compact.specs.Frame.{parsed, writing, outcome_of, Within};
+ghost use Rattle.compact.specs.Frame.{parsed, writing, parts_of, outcome_of, Within};
+ghost use Rattle.compact.specs.Expected.{expected};
 
-use error::{FrameSite, Refusal, Slice};
+use error::{FrameSite, PackingSite, Refusal, Slice};
 
 // The bytes before the norm.
 const HEADER_LENGTH: usize = 11;
@@ -34,7 +36,7 @@ pub fn write_part(part: &[u8], output: &mut [u8], at: usize)
 }
 
 // Writes the first 11 bytes of a frame. Public only for the encoder's crate, which writes its frame in place.
-#[tactic(auto, unfolding(crate::specs::Frame::header, crate::specs::Frame::bytes_of))]
+#[tactic(auto, unfolding(crate::specs::Frame::header, slices::specs::Bytes::bytes_of))]
 pub fn write_header(width: u8, count: u32, norm_len: u16, output: &mut [u8])
     requires { 11 ≤ length output.old }
     ensures { output.new ≡ header width count norm_len ++ drop 11 output.old }
@@ -82,7 +84,7 @@ fn packed_length(width: u8, count: u32) -> usize
 }
 
 // The header at the front of a frame, whose bytes are all there.
-#[tactic(auto, unfolding(crate::specs::Frame::parsed, crate::specs::Frame::number_of))]
+#[tactic(auto, unfolding(crate::specs::Frame::parsed, slices::specs::Bytes::number_of))]
 pub fn parse_compact(bytes: &[u8]) -> Result<CompactFrame, Refusal>
     ensures result_value { outcome_of bytes.now result ≡ parsed bytes.now }
     ensures within { Within bytes.now result }
@@ -140,4 +142,29 @@ pub fn index_part<'a>(bytes: &'a [u8], frame: CompactFrame) -> &'a [u8]
 {
     let n = frame.norm_len;
     tail(bytes, HEADER_LENGTH + n as usize)
+}
+
+// A parsed frame against the width and the number of blocks that its reader expects, and its
+// padding bits. Public only for who reads a frame under a profile.
+#[tactic(auto, unfolding(crate::specs::Expected::expected), using(crate::proofs::FrameLaws::length_indices))]
+pub fn check_expected(
+    bytes: &[u8],
+    frame: CompactFrame,
+    width: u8,
+    count: u32,
+) -> Result<(), Refusal>
+    requires { parsed bytes.now ≡ completed (parts_of bytes.now frame) }
+    ensures { outcome result ≡ expected width count (parts_of bytes.now frame) }
+{
+    if frame.width != width {
+        return Err(Refusal::CodeHeader);
+    }
+    if frame.block_count != count {
+        return Err(Refusal::CodeHeader);
+    }
+    let spare = bitpack::padding(index_part(bytes, frame), count as u64 * width as u64);
+    if spare != 0 {
+        return Err(Refusal::PackedIndices(PackingSite::PaddingBit));
+    }
+    Ok(())
 }

@@ -9,7 +9,7 @@ use lib.ListN.{length, get_or}
 use lib.Ieee.{Float}
 use borrow.Author.Tests.{not-false, ltb-true, eqb-true}
 use Rattle.error.specs.Numbers.{Outcome, completed, refused, whole, of_length}
-use Rattle.error.proofs.Outcomes.{both, never, passed}
+use Rattle.error.proofs.Outcomes.{never}
 use Rattle.error.proofs.Refusals.{also_first, also_next}
 use Rattle.slices.proofs.FirstLaw.{none_before}
 use Rattle.bitpack.specs.Layout.{index_at}
@@ -17,7 +17,9 @@ use Rattle.bitpack.proofs.Packing.{length-unpacked, unpacked_index}
 use Rattle.compact.specs.Frame.{Parts}
 use Rattle.profile.specs.Valid.{Valid}
 use Rattle.profile.proofs.Facts as profile-facts
-use Rattle.decode.specs.Decode.{DecodeCall, headed, unpadded, offending, indices_of, indexed, readable}
+use Rattle.compact.specs.Expected.{expected}
+use Rattle.compact.proofs.ExpectedLaw.{as_expected}
+use Rattle.decode.specs.Decode.{DecodeCall, offending, indices_of, indexed, readable_by, readable}
 use Rattle.decode.proofs.CheckLaw.{Passes, Sizes, Bounds, Indices}
 
 -- ---- one check that is passed
@@ -44,7 +46,7 @@ pub record Readable (c : DecodeCall) (parts : Parts) : Type 0 where
   pub indices_below : (i : ℕ) → i < parts.count → index_at parts.indices parts.width i < c.profile.codebook_size
 
 pub readable_accepted : (c : DecodeCall) (parts : Parts) (norm : Float) → readable c parts ≡ completed norm → Readable c parts
-unfolding readable indexed
+unfolding readable_by indexed
 readable_accepted c parts norm e =
     let d = c.profile.ambient_dim in
     let k = c.profile.block_dim in
@@ -58,17 +60,16 @@ readable_accepted c parts norm e =
     let l3 = passed_length 6 d c.output _ l2.1 in
     let l4 = passed_length 7 (2 * d) c.work _ l3.1 in
     let i0 = also_first (Indices c parts) _ e3 in
-    let i1 = also_next (headed w (d / k) parts) _ i0 in
-    let h = both (eqb parts.width w) (eqb parts.count (d / k)) (not-false _ (passed _ 17 [] _ tt (also_first (headed w (d / k) parts) _ i0)).0) in
-    let o = none_offends n (indices_of parts) _ (also_next (unpadded parts) _ i1) in
+    let a = as_expected w (d / k) parts (also_first (expected w (d / k) parts) _ i0) in
+    let o = none_offends n (indices_of parts) _ (also_next (expected w (d / k) parts) _ i0) in
     record {
       valid = profile-facts.valid c.profile c.schema c.algorithm c.log2 (also_first (Passes c parts) _ e);
       matrix_length = l1.0;
       codewords_length = l2.0;
       output_length = l3.0;
       work_length = l4.0;
-      width = eqb-true parts.width w h.0;
-      count = eqb-true parts.count (d / k) h.1;
+      width = a.width;
+      count = a.count;
       indices_below = λ i l.
           ltb-true (index_at parts.indices parts.width i) n
           (ap (λ (z : ℕ). ltb z n) (sym (unpacked_index parts.indices parts.count parts.width i l))

@@ -10,12 +10,13 @@ use Rattle.bitpack.specs.Layout.{padding_from}
 use Rattle.compact.specs.Frame.{Parts, parsed}
 use Rattle.profile.specs.Checks.{validity}
 use Rattle.norm.specs.Norm.{norm_value}
-use Rattle.decode.specs.Decode.{DecodeCall, lengths, values, below, indices_of, indexed, readable, decodable, valued, decoding}
+use Rattle.compact.specs.Expected.{expected}
+use Rattle.decode.specs.Decode.{DecodeCall, lengths, values, below, indices_of, indexed, readable_by, readable, decodable, valued, decoding}
 
 -- ---- header, padding, indices
 module _ (bits blocks n : ℕ) (parts : Parts) where
   pub clear : parts.width ≡ bits → parts.count ≡ blocks → padding_from parts.indices (parts.count * parts.width) ≡ 0 → indexed bits blocks n parts ≡ below n (indices_of parts)
-  unfolding indexed
+  unfolding indexed expected
   clear w c h = rw (eq-eqb parts.width bits w, eq-eqb parts.count blocks c, eq-eqb (padding_from parts.indices (parts.count * parts.width)) 0 h)
 
 -- ---- the checks of a parsed frame, one after another
@@ -38,7 +39,7 @@ module _ (c : DecodeCall) (parts : Parts) where
     module _ (s : Sizes ≡ completed tt) where
       module _ (b : Bounds ≡ completed tt) where
         pub read_norm : Indices ≡ completed tt → readable c parts ≡ norm_value parts.norm
-        unfolding readable
+        unfolding readable_by
         read_norm h = also_then Passes _ v ∙ also_then Sizes _ s ∙ also_then Bounds _ b ∙ also_then Indices _ h
 
 -- ---- the whole

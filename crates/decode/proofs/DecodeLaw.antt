@@ -23,7 +23,8 @@ use Rattle.compact.proofs.FrameLaws.{length_indices}
 use Rattle.profile.specs.declared.FibQuantProfile.{FibQuantProfile}
 use Rattle.profile.specs.Valid.{Valid}
 use Rattle.lloyd_search.specs.Distance.{row_of}
-use Rattle.decode.specs.Decode.{rotated_at, below, unpadded}
+use Rattle.compact.specs.Expected.{unpadded}
+use Rattle.decode.specs.Decode.{rotated_at, below}
 
 -- coordinate j of block i
 pub rotated_row : (k : ℕ) (codewords : List Float) (indices : List ℕ) (i j : ℕ) → j < k → rotated_at k codewords indices (i * k + j) ≡ row_of k codewords (get_or indices i 0) j

@@ -1,16 +1,17 @@
 -- What decoding a frame comes to: document 01's checks in their order, and the values that indices and norm stand for.
 -- Definitions only. d is the ambient dimension, k the block dimension, n the codebook size.
-use Rattle.std.specs.Prelude.{ℕ, ◌*◌, ◌/◌, ◌%◌, false, not, ◌&&◌, cond, List, [], ◌∷◌, ltb, eqb, pos, length, get_or, Float, Option, None, Some}
+use Rattle.std.specs.Prelude.{ℕ, ◌*◌, ◌/◌, ◌%◌, false, not, List, [], ◌∷◌, ltb, pos, length, get_or, Float, Option, None, Some}
 use Rattle.std.specs.Float.{nan, fin, binary32, binary64}
 use Rattle.std.specs.Float.Ieee.{mul}
-use Rattle.error.specs.Names.{codewords_slice, float_work_slice, matrix_slice, output_slice, padding_bit_site}
+use Rattle.error.specs.Names.{codewords_slice, float_work_slice, matrix_slice, output_slice}
 use Rattle.error.specs.Numbers.{Outcome, completed, refused, whole, and_then, also, of_length}
 use Rattle.slices.specs.First.{first_where}
 use Rattle.slices.specs.Lists.{tabulate}
 use Rattle.slices.specs.Limit.{first_outside, bounded, first_not_finite}
 use Rattle.narrow.specs.Pack.{narrow_to}
-use Rattle.bitpack.specs.Layout.{unpacked_indices, padding_from}
+use Rattle.bitpack.specs.Layout.{unpacked_indices}
 use Rattle.compact.specs.Frame.{Parts, parsed}
+use Rattle.compact.specs.Expected.{expected}
 use Rattle.profile.specs.declared.FibQuantProfile.{FibQuantProfile}
 use Rattle.profile.specs.Checks.{validity}
 use Rattle.rotation.specs.Apply.{applied_inverse}
@@ -89,19 +90,6 @@ values matrix codewords =
     (bounded matrix_slice (first_outside matrix_limit matrix)
     (completed tt))
 
--- 17: the frame has the profile's width of an index and number of blocks
-abbrev pub headed : ℕ → ℕ → Parts → Outcome Unit
-headed bits blocks parts =
-    cond (not (eqb parts.width bits && eqb parts.count blocks)) (refused 17 [])
-    (completed tt)
-
--- 9: no padding bit is set. Sites 1 and 2 can't come: `only_padding` of proofs/DecodeLaw.antt.
-abbrev pub unpadded : Parts → Outcome Unit
-unpadded parts =
-    let padding = padding_from parts.indices (parts.count * parts.width) in
-    cond (not (eqb padding 0)) (refused 9 (whole padding_bit_site ∷ []))
-    (completed tt)
-
 -- 11: the first index that is not below n
 abbrev pub offending : ℕ → List ℕ → Option ℕ → Outcome Unit
 offending n indices None = completed tt
@@ -114,9 +102,9 @@ below n indices = offending n indices (first_where (λ i. not (ltb (get_or indic
 abbrev pub indices_of : Parts → List ℕ
 indices_of parts = unpacked_indices parts.indices parts.count parts.width
 
--- 17, 9 and 11
+-- 17, 9 and 11. Sites 1 and 2 of 9 can't come: `only_padding` of proofs/DecodeLaw.antt.
 unfoldable pub indexed : ℕ → ℕ → ℕ → Parts → Outcome Unit
-indexed bits blocks n parts = also (headed bits blocks parts) (also (unpadded parts) (below n (indices_of parts)))
+indexed bits blocks n parts = also (expected bits blocks parts) (below n (indices_of parts))
 
 -- 12: the first value that is not finite
 abbrev pub unless : List Float → Option ℕ → Outcome (List Float)
@@ -128,9 +116,10 @@ only_finite xs = unless xs (first_not_finite xs)
 
 -- ---- decoding
 
--- the parts of a frame, through every check but the last: the value of the norm
-unfoldable pub readable : DecodeCall → Parts → Outcome Float
-readable c parts =
+-- The parts of a frame, through every check but the last: the value of the norm, which is read by this rule.
+-- Document 01's is norm_value; claim_codes has what K9's older frames stand for, by another.
+unfoldable pub readable_by : (List ℕ → Outcome Float) → DecodeCall → Parts → Outcome Float
+readable_by rule c parts =
     let d = c.profile.ambient_dim in
     let k = c.profile.block_dim in
     let n = c.profile.codebook_size in
@@ -138,11 +127,11 @@ readable c parts =
     (also (lengths d k n (length c.matrix) (length c.codewords) c.output c.work)
     (also (values c.matrix c.codewords)
     (also (indexed c.profile.wire_index_bits (d / k) n parts)
-    (norm_value parts.norm))))
+    (rule parts.norm))))
 
 -- the same of bytes: the frame is checked first
-abbrev pub decodable : DecodeCall → Outcome Float
-decodable c = and_then (parsed c.bytes) (readable c)
+abbrev pub decodable_by : (List ℕ → Outcome Float) → DecodeCall → Outcome Float
+decodable_by rule c = and_then (parsed c.bytes) (readable_by rule c)
 
 -- the values of a frame whose norm is known
 abbrev pub valued : DecodeCall → Parts → Float → Outcome (List Float)
@@ -151,5 +140,15 @@ valued c parts norm =
     (decoded c.profile.ambient_dim c.profile.block_dim c.matrix c.codewords (indices_of parts) norm)
 
 -- the whole: every check, and the values
+abbrev pub decoding_by : (List ℕ → Outcome Float) → DecodeCall → Outcome (List Float)
+decoding_by rule c = and_then (parsed c.bytes) (λ parts. and_then (readable_by rule c parts) (valued c parts))
+
+-- ---- document 01's norms
+abbrev pub readable : DecodeCall → Parts → Outcome Float
+readable = readable_by norm_value
+
+abbrev pub decodable : DecodeCall → Outcome Float
+decodable = decodable_by norm_value
+
 abbrev pub decoding : DecodeCall → Outcome (List Float)
-decoding c = and_then (parsed c.bytes) (λ parts. and_then (readable c parts) (valued c parts))
+decoding = decoding_by norm_value

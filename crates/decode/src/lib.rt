@@ -18,7 +18,7 @@ ghost use Rattle.decode.specs.Decode.{rotated, decoded, lengths, values, below, 
 
 use bitpack::{BitReader, PackedIndices};
 use compact::CompactFrame;
-use error::{PackingSite, Refusal, Slice};
+use error::{Refusal, Slice};
 use profile::{FibQuantProfile, GivenProfile};
 
 // The most that a value of the matrix may be in size: 2^20.
@@ -82,35 +82,26 @@ fn check_below(packed: PackedIndices<'_>, n: u32) -> Result<(), Refusal>
 }
 
 // The frame's header against the profile's numbers, its padding bits, and its indices.
-#[tactic(auto, unfolding(crate::specs::Decode::indexed), using(compact::proofs::FrameLaws::length_indices))]
+#[tactic(auto, unfolding(crate::specs::Decode::indexed, compact::specs::Expected::expected), using(compact::proofs::FrameLaws::length_indices))]
 fn check_indices(profile: FibQuantProfile, bytes: &[u8], frame: CompactFrame) -> Result<(), Refusal>
     requires valid { Valid profile }
     requires frame { parsed bytes.now ≡ completed (parts_of bytes.now frame) }
     ensures { outcome result ≡ indexed profile.wire_index_bits
         (profile.ambient_dim / profile.block_dim) profile.codebook_size (parts_of bytes.now frame) }
 {
-    let width = frame.width;
-    let count = frame.block_count;
-    if width != profile.wire_index_bits {
-        return Err(Refusal::CodeHeader);
-    }
-    if count != profile.ambient_dim / profile.block_dim {
-        return Err(Refusal::CodeHeader);
-    }
+    let width = profile.wire_index_bits;
+    let count = profile.ambient_dim / profile.block_dim;
+    compact::check_expected(bytes, frame, width, count)?;
     let packed = PackedIndices {
         bytes: compact::index_part(bytes, frame),
-        width,
-        count: count as usize,
+        width: frame.width,
+        count: frame.block_count as usize,
     };
-    let spare = bitpack::padding(packed.bytes, count as u64 * width as u64);
-    if spare != 0 {
-        return Err(Refusal::PackedIndices(PackingSite::PaddingBit));
-    }
     check_below(packed, profile.codebook_size)
 }
 
 // Every check of a parsed frame, and the value of its norm.
-#[tactic(auto, unfolding(crate::specs::Decode::readable), using(profile::proofs::Facts::valid))]
+#[tactic(auto, unfolding(crate::specs::Decode::readable_by), using(profile::proofs::Facts::valid))]
 fn read_code(
     quantizer: FibQuantizer<'_>,
     bytes: &[u8],

@@ -12,7 +12,8 @@ use Rattle.slices.specs.Lists.{tabulate}
 use Rattle.narrow.specs.Pack.{narrow_to}
 use Rattle.root.specs.Sqrt.{sqrt_of}
 use Rattle.bitpack.specs.Layout.{bytes_for, packed_bytes}
-use Rattle.compact.specs.Frame.{bytes_of, frame_of}
+use Rattle.slices.specs.Bytes.{bytes_of}
+use Rattle.compact.specs.Frame.{frame_of}
 use Rattle.profile.specs.declared.FibQuantProfile.{FibQuantProfile}
 use Rattle.profile.specs.Checks.{validity}
 use Rattle.rotation.specs.Apply.{applied}

@@ -2,11 +2,11 @@
 -- has passed, and where a refusal came from. Assumes nothing.
 use mathlib.Core.Path.{◌≡◌, refl, sym}
 use mathlib.Core.Logic.{◌⊎◌, inl, inr}
-use Prim.Native.Nat.{ℕ}
+use Prim.Native.Nat.{ℕ, ◌<◌}
 use native.Mathlib.Omega.{arith}
 use mathlib.Core.Bool.{Bool, true, false, ◌&&◌, cond, true≢false}
 use mathlib.Core.List.{List}
-use Rattle.error.specs.Numbers.{Value, Outcome, completed, refused, and_then}
+use Rattle.error.specs.Numbers.{Value, Outcome, completed, refused, and_then, also}
 
 -- both of two tests hold
 pub both : (a b : Bool) → a && b ≡ true → (a ≡ true) × (b ≡ true)
@@ -44,3 +44,12 @@ module _ {A B : Type 0} where
       → (o ≡ refused m vs) ⊎ ((x : A) × (o ≡ completed x) × (f x ≡ refused m vs))
   then_refused (completed x) f m vs e = inr (x, refl, e)
   then_refused (refused n us) f m vs e = let p : n ≡ m = cc in let q : us ≡ vs = cc in inl (rw (p, q))
+
+-- ---- a refusal that a check does not make comes after it
+module _ {A : Type 0} (m : ℕ) (us : List Value) where
+  pub after_test : (t : Bool) (n : ℕ) (vs : List Value) (rest : Outcome A) → n < m → cond t (refused n vs) rest ≡ refused m us → rest ≡ refused m us
+  after_test t n vs rest h e = refused_later t n vs rest m us (λ z. omega arith) e
+
+  pub after_check : (o : Outcome Unit) (q : Outcome A) → (o ≡ refused m us → ⊥) → also o q ≡ refused m us → q ≡ refused m us
+  after_check (completed tt) q h e = e
+  after_check (refused n vs) q h e = absurd (let p : n ≡ m = cc in let w : vs ≡ us = cc in h (rw (p, w)))

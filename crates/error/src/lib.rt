@@ -50,4 +50,6 @@ pub enum Refusal {
     },
     EventSlotsUsed(u64),
     Report(ReportSite),
+    // A norm that binary16 does not hold exactly.
+    InexactNorm,
 }

@@ -3,4 +3,5 @@
 
 mod codewords;
 mod coding;
+mod norms;
 mod search;

@@ -113,6 +113,14 @@ impl Binary {
             x => s + self.magnitude(LEAD + t, x - 1),
         }
     }
+
+    // The pattern of x at this format, rounded once. Above those with a sign there is none.
+    fn pattern(self, x: f64) -> u64
+        ensures value { result ≡ packed self.digits self.emax x }
+        ensures bound { result < 2 * top_of self.digits self.emax }
+    {
+        self.narrowed(std::num::f64_to_bits_with_nan(x))
+    }
 }
 
 // ---- binary16 patterns as values
@@ -144,15 +152,21 @@ fn unsigned_f16(m: u32) -> f32
 pub fn f64_to_f32(x: f64) -> f32
     ensures { result ≡ narrow_to binary32 x }
 {
-    let bits = BINARY32.narrowed(std::num::f64_to_bits_with_nan(x));
-    std::num::f32_from_bits_with_nan(bits as u32)
+    std::num::f32_from_bits_with_nan(f64_to_f32_bits(x))
+}
+
+// The binary32 pattern of x, rounded once. A NaN's is 0x7FC0_0000.
+pub fn f64_to_f32_bits(x: f64) -> u32
+    ensures { result ≡ packed 24 127 x }
+{
+    BINARY32.pattern(x) as u32
 }
 
 // The binary16 pattern of x, rounded once. A NaN's is 0x7E00.
 pub fn f64_to_f16_bits(x: f64) -> u16
     ensures { result ≡ packed 11 15 x }
 {
-    BINARY16.narrowed(std::num::f64_to_bits_with_nan(x)) as u16
+    BINARY16.pattern(x) as u16
 }
 
 // The value of a binary16 pattern, which binary32 holds exactly.
@@ -163,6 +177,13 @@ pub fn f16_bits_to_f32(b: u16) -> f32
         return unsigned_f16(b as u32);
     }
     -unsigned_f16((b - 0x8000) as u32)
+}
+
+// The value of a binary32 pattern, which binary64 holds exactly.
+pub fn f32_bits_to_f64(b: u32) -> f64
+    ensures { result ≡ unpacked 24 127 b }
+{
+    f32_to_f64(std::num::f32_from_bits_with_nan(b))
 }
 
 // x at binary64, which holds every value of binary32. One type of values serves both formats.

@@ -1,26 +1,29 @@
 -- Which patterns stand for a norm, what is written and what is read back. Assumes nothing.
 use mathlib.Core.Path.{◌≡◌, refl, sym, ap, ◌∙◌, subst}
 use mathlib.Core.Logic.{inl, inr}
-use Prim.Native.Nat.{ℕ, zero, suc, ◌+◌, ◌-◌, ◌*◌, ◌/◌, ◌%◌, ◌^◌, ◌≤◌, ◌<◌}
-use native.Mathlib.Nat.{mul-pos, mul_comm, mul-one, zero-mul, mul-lt-mul_of_pos_right, eq_of_mul-eq-mul_right, eq-zero-or-pos, mod-eq_of_lt, mod-add-div', le_of_eq, lt_of_not-le, lt_of_lt_of_le, le_antisymm, le_of_suc-le-suc, lt_trans}
+use Prim.Native.Nat.{ℕ, zero, suc, ◌+◌, ◌-◌, ◌*◌, ◌%◌, ◌^◌, ◌≤◌, ◌<◌}
+use native.Mathlib.Nat.{mul-pos, mul_comm, mul-one, zero-mul, mul-lt-mul_of_pos_right, eq_of_mul-eq-mul_right, eq-zero-or-pos, mod-eq_of_lt, le_of_eq, lt_of_not-le, lt_of_lt_of_le, le_antisymm, le_of_suc-le-suc, lt_trans}
 use native.Mathlib.Omega.{arith}
 use mathlib.Core.Bool.{Bool, true, false, not, ◌&&◌}
-use mathlib.Core.List.{[], ◌∷◌}
-use lib.Dec.{T, ltb, leb, ltb→lt, nltb→le}
+use mathlib.Core.List.{List, []}
+use lib.Dec.{T, ltb, leb, eqb, ltb→lt, nltb→le}
+use lib.ListN.{length}
 use lib.Pow.{pow_pos}
 use lib.Ieee.{Float, nan, inf, fin, up, down, lt}
 use lib.Ieee.Fits.{down_pos}
 use lib.Ieee.Exact.{HasValue}
 use lib.Ieee.Scale.{finite}
-use borrow.Author.Tests.{lt-ltb, le-leb, lt-leb, eq-eqb, not-false, ltb-true}
-use Rattle.error.specs.Numbers.{completed}
-use Rattle.error.proofs.Outcomes.{both, passed, completed_same}
+use borrow.Author.Tests.{lt-ltb, le-leb, lt-leb, eq-eqb, eqb-true, not-false, ltb-true}
+use Rattle.error.specs.Numbers.{Value, completed, refused}
+use Rattle.error.proofs.Outcomes.{both, passed, completed_same, never, after_test}
 use Rattle.ieee.specs.Sum.{plus_zero}
+use Rattle.slices.specs.Bytes.{bytes_of, number_of}
+use Rattle.slices.proofs.BytesLaw.{number_of_bytes, length_bytes}
 use Rattle.narrow.specs.Format.{low_of, inf_of, top_of, units_of, unpacked}
 use Rattle.narrow.specs.Pack.{packed}
 use Rattle.narrow.proofs.ToNearest.{units_le}
 use Rattle.narrow.proofs.Unpacked.{unpacked_value}
-use Rattle.norm.specs.Norm.{above_zero, written_as, norm_bits, norm_value}
+use Rattle.norm.specs.Norm.{above_zero, written_as, norm_bits, value_of, norm_value}
 
 and_true : (b : Bool) → b && true ≡ b
 and_true true = refl
@@ -132,7 +135,35 @@ pub norm_written : (x : Float) (b : ℕ) → norm_bits x ≡ completed b → Wri
 unfolding norm_bits
 norm_written x b e = as_written x (packed 11 15 x) b e
 
+-- ---- what a rule reads
+-- the norm x that n bytes stand for
+pub record Reads (n p E : ℕ) (bytes : List ℕ) (x : Float) : Type 0 where
+  pub sized : length bytes ≡ n
+  pub positive : above_zero x ≡ true
+  pub is : x ≡ unpacked p E (number_of bytes)
+
+module _ (n p E : ℕ) (bytes : List ℕ) (x : Float) where
+  pub as_read : value_of n p E bytes ≡ completed x → Reads n p E bytes x
+  unfolding value_of
+  as_read e =
+      let f = passed (not (eqb (length bytes) n)) 10 [] _ x e in
+      let g = passed (not (above_zero (unpacked p E (number_of bytes)))) 10 [] _ x f.1 in
+      let i = sym (completed_same _ x g.1) in
+      record { sized = eqb-true (length bytes) n (not-false _ f.0); positive = ap above_zero i ∙ not-false _ g.0; is = i }
+
+  pub reads : Reads n p E bytes x → value_of n p E bytes ≡ completed x
+  unfolding value_of
+  reads r = rw (eq-eqb (length bytes) n r.sized, sym r.is, r.positive)
+
+-- or it is refused by 10
+pub value_not : (n p E : ℕ) (bytes : List ℕ) (m : ℕ) (us : List Value) → 10 < m → value_of n p E bytes ≡ refused m us → ⊥
+unfolding value_of
+value_not n p E bytes m us h e =
+    let x = unpacked p E (number_of bytes) in
+    let s = after_test m us (not (eqb (length bytes) n)) 10 _ _ h e in
+    never m us x (sym (after_test m us (not (above_zero x)) 10 _ _ h s))
+
 -- what is written is read back
-pub read_back : (b : ℕ) → 0 < b → b < inf_of 11 15 → norm_value (b % 256 ∷ b / 256 ∷ []) ≡ completed (unpacked 11 15 b)
-unfolding norm_value
-read_back b h k = rw (mod-add-div' b 256, pattern_norm b h k)
+pub read_back : (b : ℕ) → 0 < b → b < inf_of 11 15 → norm_value (bytes_of 2 b) ≡ completed (unpacked 11 15 b)
+unfolding value_of
+read_back b h k = rw (length_bytes 2 b, number_of_bytes 2 b (omega arith), pattern_norm b h k)

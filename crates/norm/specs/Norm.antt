@@ -1,10 +1,12 @@
--- The norm of a code: rounded once from binary64 to binary16, as document 02's K3 has it, and read as document 01 has it.
+-- The norm of a code: rounded once from binary64 to binary16, as document 02's K3 has it, and read as document 01 has it,
+-- or, for K9's older frames, as the Rust reads its format F32Reference.
 -- Refusal 10 comes where a norm is not codable, or the bytes of one are not valid. Definitions only.
-use Rattle.std.specs.Prelude.{ℕ, ◌+◌, ◌*◌, Bool, not, ◌&&◌, cond, List, [], eqb, length, get_or, Float}
+use Rattle.std.specs.Prelude.{ℕ, Bool, not, ◌&&◌, cond, List, [], eqb, length, Float}
 use Rattle.std.specs.Float.Ieee.{lt}
 use Rattle.std.specs.Float.Ieee.Scale.{finite}
 use Rattle.error.specs.Numbers.{Outcome, completed, refused}
 use Rattle.ieee.specs.Sum.{plus_zero}
+use Rattle.slices.specs.Bytes.{number_of}
 use Rattle.narrow.specs.Format.{unpacked}
 use Rattle.narrow.specs.Pack.{packed}
 
@@ -23,13 +25,18 @@ written_as x bits =
 unfoldable pub norm_bits : Float → Outcome ℕ
 norm_bits x = written_as x (packed 11 15 x)
 
--- two bytes as a pattern, the low byte first
-abbrev pub pattern_of : List ℕ → ℕ
-pattern_of bytes = get_or bytes 0 0 + get_or bytes 1 0 * 256
+-- what is read from n bytes at a format, or 10: the value of their pattern, low byte first, finite and above zero
+unfoldable pub value_of : ℕ → ℕ → ℕ → List ℕ → Outcome Float
+value_of n p emax bytes =
+    let norm = unpacked p emax (number_of bytes) in
+    cond (not (eqb (length bytes) n)) (refused 10 [])
+    (cond (not (above_zero norm)) (refused 10 [])
+    (completed norm))
 
--- what is read from the bytes of a norm, or 10: the value of the pattern, finite and above zero
-unfoldable pub norm_value : List ℕ → Outcome Float
-norm_value bytes =
-    cond (not (eqb (length bytes) 2)) (refused 10 [])
-    (cond (not (above_zero (unpacked 11 15 (pattern_of bytes)))) (refused 10 [])
-    (completed (unpacked 11 15 (pattern_of bytes))))
+-- the norm of a frame: two bytes of binary16
+abbrev pub norm_value : List ℕ → Outcome Float
+norm_value = value_of 2 11 15
+
+-- and of one of K9's older frames: four bytes of binary32
+abbrev pub norm_value_f32 : List ℕ → Outcome Float
+norm_value_f32 = value_of 4 24 127

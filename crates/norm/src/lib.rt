@@ -1,10 +1,11 @@
-// The norm of a code as codec.rs stores it: two bytes, the little-endian binary16 pattern of a finite value above zero.
+// The norm of a code as codec.rs stores it: two bytes, the little-endian binary16 pattern of a finite value above zero; or
+// four, that of a binary32 value, in its format F32Reference, which is only read.
 #![tactic(auto)]
 
 ghost use Rattle.std.specs.Prelude.{◌≡◌};
 ghost use Rattle.error.specs.Numbers.{outcome};
 ghost use Rattle.narrow.specs.Format.{unpacked};
-ghost use Rattle.norm.specs.Norm.{above_zero, norm_bits, norm_value};
+ghost use Rattle.norm.specs.Norm.{above_zero, norm_bits, norm_value, norm_value_f32};
 
 use error::Refusal;
 
@@ -38,7 +39,7 @@ pub fn encode_norm(norm: f64) -> Result<u16, Refusal>
 }
 
 // The norm that the two bytes of a payload stand for.
-#[tactic(auto, unfolding(crate::specs::Norm::norm_value))]
+#[tactic(auto, unfolding(crate::specs::Norm::value_of, slices::specs::Bytes::number_of))]
 pub fn decode_norm(payload: &[u8]) -> Result<f64, Refusal>
     ensures { outcome result ≡ norm_value payload.now }
 {
@@ -50,4 +51,20 @@ pub fn decode_norm(payload: &[u8]) -> Result<f64, Refusal>
         return Err(Refusal::Norm);
     }
     Ok(narrow::f32_to_f64(narrow::f16_bits_to_f32(bits)))
+}
+
+// The norm that the four bytes of a payload stand for in the format F32Reference.
+#[tactic(auto, unfolding(crate::specs::Norm::value_of, slices::specs::Bytes::number_of))]
+pub fn decode_norm_f32(payload: &[u8]) -> Result<f64, Refusal>
+    ensures { outcome result ≡ norm_value_f32 payload.now }
+{
+    let [a, b, c, d] = payload else {
+        return Err(Refusal::Norm);
+    };
+    let bits = u32::from_le_bytes([*a, *b, *c, *d]);
+    let norm = narrow::f32_bits_to_f64(bits);
+    if !is_positive(norm) {
+        return Err(Refusal::Norm);
+    }
+    Ok(norm)
 }

@@ -1,16 +1,17 @@
 -- A profile whose checks are completed is valid: the plain facts behind the tests. Assumes nothing.
-use Rattle.std.proofs.Common.{◌≡◌, ℕ, zero, suc, ◌*◌, ◌%◌, ◌≤◌, Bool, true, false, not, ◌||◌, eqb, ltb, leb, List, refl, le_of_suc-le-suc, mul-le-mul, lt_of_not-le, div-add-mod', arith, ltb-false, eqb-true, leb-false}
-use lib.Ieee.{Float}
+use Rattle.std.proofs.Common.{◌≡◌, ℕ, zero, suc, ◌*◌, ◌%◌, ◌≤◌, ◌<◌, Bool, true, false, cond, not, ◌||◌, ◌&&◌, pos, sym, eqb, ltb, leb, List, refl, le_of_suc-le-suc, mul-le-mul, lt_of_not-le, div-add-mod', arith, ltb-false, eqb-true, leb-false}
+use lib.Ieee.{Float, binary64, of_int}
 use borrow.Author.Tests.{eqb-false, not-false}
-use Rattle.error.specs.Numbers.{Outcome, completed, also}
+use Rattle.error.specs.Names.{schema_field, rotation_algorithm_field, paper_rate_field}
+use Rattle.error.specs.Numbers.{Value, Outcome, completed, refused, also}
 use Rattle.profile.specs.declared.NormFormat.{NormFormat}
 use Rattle.profile.specs.declared.NormFormat.TheVariants.{Fp16Paper, F32Reference}
 use Rattle.profile.specs.declared.SourceMode.{SourceMode}
 use Rattle.profile.specs.declared.FibQuantProfile.{FibQuantProfile}
-use Rattle.profile.specs.Fields.{profile_schema, rotation_algorithm, index_width}
-use Rattle.profile.specs.Checks.{named, shape_of, sizes_of, formats_of, width_of, rates_of, methods_of, settings_of, numbers_of, validity}
+use Rattle.profile.specs.Fields.{profile_schema, rotation_algorithm, same_bytes, is_fp16, is_canonical, radius_for, direction_for, same_radius, same_direction, index_width, rate_agrees}
+use Rattle.profile.specs.Checks.{named, shape_of, sizes_of, formats_of, width_of, rate_of, per_coord, rates_of, methods_of, settings_of, numbers_of, validity}
 use Rattle.profile.specs.Valid.{Shape, Settings, Valid}
-use Rattle.error.proofs.Outcomes.{passed}
+use Rattle.error.proofs.Outcomes.{passed, never, after_test, after_check}
 use Rattle.error.proofs.Refusals.{also_first, also_next}
 use Rattle.profile.proofs.Width.{width_range}
 
@@ -129,3 +130,67 @@ valid p schema algorithm log2 h =
       width_most = omega (arith, e, range.1);
       settings = t;
     }
+
+-- ---- its checks refuse by no number above 6
+module _ (m : ℕ) (us : List Value) (h : 6 < m) where
+  passes : ◌≡◌ {A = Outcome Unit} (completed tt) (refused m us) → ⊥
+  passes e = never m us tt (sym e)
+
+  field_not : (t : Bool) (vs : List Value) → ◌≡◌ {A = Outcome Unit} (cond t (refused 6 vs) (completed tt)) (refused m us) → ⊥
+  field_not t vs e = passes (after_test m us t 6 vs (completed tt) h e)
+
+  shape_not : (d k n : ℕ) → shape_of d k n ≡ refused m us → ⊥
+  unfolding shape_of
+  shape_not d k n e =
+      let s1 = after_test m us (eqb d 0) 1 _ _ (omega arith) e in
+      let s2 = after_test m us (eqb k 0 || leb d k) 2 _ _ (omega arith) s1 in
+      let s3 = after_test m us (not (eqb (d % k) 0)) 3 _ _ (omega arith) s2 in
+      let s4 = after_test m us (ltb 16384 d) 5 _ _ (omega arith) s3 in
+      let s5 = after_test m us (ltb 256 k) 5 _ _ (omega arith) s4 in
+      passes (after_test m us (ltb n 2 || ltb 1048576 n) 4 _ _ (omega arith) s5)
+
+  sizes_not : (d k n : ℕ) → sizes_of d k n ≡ refused m us → ⊥
+  sizes_not d k n e =
+      passes (after_test m us (ltb 67108864 (n * k)) 5 _ _ (omega arith) (after_test m us (ltb 16777216 (d * d)) 5 _ _ (omega arith) e))
+
+  formats_not : (norm : NormFormat) (source : SourceMode) → formats_of norm source ≡ refused m us → ⊥
+  formats_not norm source e = field_not (not (is_canonical source)) _ (after_test m us (not (is_fp16 norm)) 6 _ _ h e)
+
+  rates_not : (p : FibQuantProfile) (log2 : Float) → rates_of p log2 ≡ refused m us → ⊥
+  unfolding rates_of
+  rates_not p log2 e =
+      let paper = per_coord log2 p.block_dim in
+      let wire = per_coord (of_int binary64 (pos p.wire_index_bits)) p.block_dim in
+      field_not (not (rate_agrees p.wire_bits_per_coord wire)) _
+      (after_check m us (rate_of paper_rate_field p.paper_rate_bits_per_coord paper) _ (field_not (not (rate_agrees p.paper_rate_bits_per_coord paper)) _) e)
+
+  settings_not : (restarts iterations samples n : ℕ) → settings_of restarts iterations samples n ≡ refused m us → ⊥
+  unfolding settings_of
+  settings_not restarts iterations samples n e =
+      let s1 = after_test m us (eqb restarts 0 || ltb 1024 restarts) 6 _ _ h e in
+      let s2 = after_test m us (eqb iterations 0 || ltb 100000 iterations) 6 _ _ h s1 in
+      field_not (ltb samples n || ltb 10000000 samples) _ s2
+
+  numbers_not : (p : FibQuantProfile) (log2 : Float) → numbers_of p log2 ≡ refused m us → ⊥
+  unfolding numbers_of
+  numbers_not p log2 e =
+      let k = p.block_dim in
+      let n = p.codebook_size in
+      let s1 = after_check m us (width_of p.wire_index_bits n) _ (field_not (not (eqb p.wire_index_bits (index_width n))) _) e in
+      let s2 = after_check m us (rates_of p log2) _ (rates_not p log2) s1 in
+      let s3 = after_check m us (methods_of k p.radius_method p.direction_method) _
+      (field_not (not (same_radius p.radius_method (radius_for k) && same_direction p.direction_method (direction_for k))) _) s2 in
+      settings_not p.lloyd_restarts p.lloyd_iterations p.training_samples n s3
+
+  pub validity_not : (p : FibQuantProfile) (schema algorithm : List ℕ) (log2 : Float) → validity p schema algorithm log2 ≡ refused m us → ⊥
+  unfolding validity
+  validity_not p schema algorithm log2 e =
+      let d = p.ambient_dim in
+      let k = p.block_dim in
+      let n = p.codebook_size in
+      let s1 = after_check m us (named schema_field schema profile_schema) _ (field_not (not (same_bytes schema profile_schema)) _) e in
+      let s2 = after_check m us (shape_of d k n) _ (shape_not d k n) s1 in
+      let s3 = after_check m us (sizes_of d k n) _ (sizes_not d k n) s2 in
+      let s4 = after_check m us (formats_of p.norm_format p.source_mode) _ (formats_not p.norm_format p.source_mode) s3 in
+      let s5 = after_check m us (named rotation_algorithm_field algorithm rotation_algorithm) _ (field_not (not (same_bytes algorithm rotation_algorithm)) _) s4 in
+      numbers_not p log2 s5

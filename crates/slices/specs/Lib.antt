@@ -1,3 +1,4 @@
 pub mod Lists
 pub mod First
 pub mod Limit
+pub mod Bytes

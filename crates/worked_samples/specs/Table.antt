@@ -1,4 +1,4 @@
--- Document 01's starred samples, and document 02's examples of a norm: what the definitions give, beside
+-- Document 01's starred samples, and document 02's examples of norms and older frames: what the definitions give, beside
 -- what the paper says; and two witnesses, of a norm just above 2 ^ -25 and of a default profile.
 -- What is stated is written out as values, so that no definition of the library
 -- stands on both sides (`numbers` only lists whole numbers). Definitions only.
@@ -8,12 +8,14 @@ use Rattle.std.specs.Float.Ieee.{of_int}
 use Rattle.error.specs.Numbers.{Outcome, completed, refused, and_then, Value, whole, real}
 use Rattle.profile.specs.declared.EmptyCellPolicy.TheVariants.{SplitHighestDistortion}
 use Rattle.profile.specs.declared.FibQuantProfile.{FibQuantProfile}
+use Rattle.profile.specs.Fields.{profile_schema, rotation_algorithm}
 use Rattle.profile.specs.Paper.{wire_bits_of, paper_of}
 use Rattle.bitpack.specs.Layout.{packed_bytes}
 use Rattle.bitpack.specs.Answers.{unpackable}
-use Rattle.compact.specs.Frame.{bytes_of, frame_of}
+use Rattle.slices.specs.Bytes.{bytes_of}
+use Rattle.compact.specs.Frame.{frame_of}
 use Rattle.narrow.specs.Pack.{narrow_to}
-use Rattle.norm.specs.Norm.{norm_bits}
+use Rattle.norm.specs.Norm.{norm_bits, norm_value_f32}
 use Rattle.lloyd_search.specs.declared.Found.{Found}
 use Rattle.lloyd_search.specs.Distance.{row_of, vector_of}
 use Rattle.lloyd_search.specs.Nearest.{nearest, mean_error}
@@ -21,6 +23,7 @@ use Rattle.lloyd_events.specs.declared.LloydRepairEvent.{LloydRepairEvent}
 use Rattle.lloyd_cells.specs.Repair.{Repaired}
 use Rattle.lloyd_cells.specs.Update.{updated}
 use Rattle.encode.specs.Encode.{norm_of}
+use Rattle.convert.specs.Convert.{ConvertCall, convert_call, f16_bytes, to_f16, to_f32}
 
 -- a row: what a definition gives, and what the paper says
 pub record Row : Type 0 where
@@ -179,11 +182,53 @@ profile_row = record {
   stated = numbers (0 ∷ 2 ∷ 4 ∷ 256 ∷ []);
 }
 
+-- document 02, K9: a frame whose norm is 1 in four bytes, and back from two; one whose norm 1 + 2 ^ -11 binary16 has not;
+-- and one with a padding bit. The profile has 6 values in blocks of 2 and 5 codewords, so that two of the indices, 5, 3 and
+-- 7, are no codeword's: they are carried over.
+abbrev frame_with : List ℕ → List ℕ → List ℕ
+frame_with norm indices = (0x46 ∷ 0x42 ∷ 0x31 ∷ 0x01 ∷ 0x03 ∷ 0x03 ∷ 0x00 ∷ 0x00 ∷ 0x00 ∷ []) ++ norm ++ indices
+
+-- log2 of 5
+abbrev log2_of_5 : Float
+log2_of_5 = fin false 5228517251457905 (negsuc 50)
+
+abbrev converted : (ConvertCall → ℕ → Outcome (List ℕ)) → ℕ → List ℕ → List Value
+converted way output bytes =
+    shown numbers (and_then (paper_of 6 2 5 7 log2_of_5)
+    (λ p. way (convert_call p profile_schema rotation_algorithm log2_of_5 bytes) output))
+
+unfoldable pub converted_row : Row
+converted_row = record {
+  given =
+      converted to_f16 15 (frame_with (0x04 ∷ 0x00 ∷ 0x00 ∷ 0x00 ∷ 0x80 ∷ 0x3F ∷ []) (0xDD ∷ 0x01 ∷ []))
+      ++ converted to_f32 17 (frame_with (0x02 ∷ 0x00 ∷ 0x00 ∷ 0x3C ∷ []) (0xDD ∷ 0x01 ∷ []))
+      ++ converted to_f16 15 (frame_with (0x04 ∷ 0x00 ∷ 0x00 ∷ 0x10 ∷ 0x80 ∷ 0x3F ∷ []) (0xDD ∷ 0x01 ∷ []))
+      ++ converted to_f16 15 (frame_with (0x04 ∷ 0x00 ∷ 0x00 ∷ 0x00 ∷ 0x80 ∷ 0x3F ∷ []) (0xDD ∷ 0x03 ∷ []));
+  stated =
+      numbers
+      ((0 ∷ 0x46 ∷ 0x42 ∷ 0x31 ∷ 0x01 ∷ 0x03 ∷ 0x03 ∷ 0x00 ∷ 0x00 ∷ 0x00 ∷ 0x02 ∷ 0x00 ∷ 0x00 ∷ 0x3C ∷ 0xDD ∷ 0x01 ∷ [])
+      ++ (0 ∷ 0x46 ∷ 0x42 ∷ 0x31 ∷ 0x01 ∷ 0x03 ∷ 0x03 ∷ 0x00 ∷ 0x00 ∷ 0x00 ∷ 0x04 ∷ 0x00 ∷ 0x00 ∷ 0x00 ∷ 0x80 ∷ 0x3F ∷ 0xDD ∷ 0x01 ∷ [])
+      ++ (27 ∷ 9 ∷ 3 ∷ []));
+}
+
+-- and norms alone, from four bytes to two: 2 ^ -24, 65,504, 2 ^ -25, 65,505, the smallest that binary32 has, 0, and infinity
+abbrev in_two : List ℕ → List Value
+in_two norm = shown numbers (and_then (norm_value_f32 norm) f16_bytes)
+
+unfoldable pub exact_row : Row
+exact_row = record {
+  given =
+      in_two (0x00 ∷ 0x00 ∷ 0x80 ∷ 0x33 ∷ []) ++ in_two (0x00 ∷ 0xE0 ∷ 0x7F ∷ 0x47 ∷ [])
+      ++ in_two (0x00 ∷ 0x00 ∷ 0x00 ∷ 0x33 ∷ []) ++ in_two (0x00 ∷ 0xE1 ∷ 0x7F ∷ 0x47 ∷ [])
+      ++ in_two (0x01 ∷ 0x00 ∷ 0x00 ∷ 0x00 ∷ []) ++ in_two (0x00 ∷ 0x00 ∷ 0x00 ∷ 0x00 ∷ []) ++ in_two (0x00 ∷ 0x00 ∷ 0x80 ∷ 0x7F ∷ []);
+  stated = numbers (0 ∷ 0x01 ∷ 0x00 ∷ 0 ∷ 0xFF ∷ 0x7B ∷ 27 ∷ 27 ∷ 27 ∷ 10 ∷ 10 ∷ []);
+}
+
 unfoldable pub table : List Row
 unfolding split_row no_direction_row no_donor_row nearest_row mean_row width_row one_codeword_row packing_row padding_row frame_row
-    norm_row small_norm_row once_row narrowing_row root_row profile_row
+    norm_row small_norm_row once_row converted_row exact_row narrowing_row root_row profile_row
 table = split_row ∷ no_direction_row ∷ no_donor_row ∷ nearest_row ∷ mean_row ∷ width_row ∷ one_codeword_row ∷ packing_row ∷
-    padding_row ∷ frame_row ∷ norm_row ∷ small_norm_row ∷ once_row ∷ narrowing_row ∷ root_row ∷ profile_row ∷ []
+    padding_row ∷ frame_row ∷ norm_row ∷ small_norm_row ∷ once_row ∷ converted_row ∷ exact_row ∷ narrowing_row ∷ root_row ∷ profile_row ∷ []
 
 -- every row of a table comes out as stated
 abbrev pub Hold : List Row → Type 0

@@ -13,14 +13,14 @@ pub struct Run {
     pub many: bool,
     pub random: Random,
     /// How many cases were completed (at 0) or refused by a number.
-    pub numbers: [u64; 21],
+    pub numbers: [u64; 28],
     /// What else a case showed, and how often.
     seen: BTreeMap<&'static str, u64>,
 }
 
 impl Run {
     pub fn new(many: bool, seed: u64) -> Self {
-        Run { many, random: Random::new(seed), numbers: [0; 21], seen: BTreeMap::new() }
+        Run { many, random: Random::new(seed), numbers: [0; 28], seen: BTreeMap::new() }
     }
 
     /// `default` rounds, or 20 times as many in a long run.

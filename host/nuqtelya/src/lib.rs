@@ -2,11 +2,12 @@
 //!
 //! A codebook is trained on sample vectors ([`train`]); a vector is then stored as a short frame of codeword numbers
 //! and read back ([`Coder`]). The work is done by functions that are proved (crates `ffi`, `ffi_codes`, `ffi_training` and what they stand on); here
-//! are only their calls. Every call is completed or gives a [`Refusal`] with a number of document 01's table; no input
-//! makes one panic.
+//! are only their calls. Every call is completed or gives a [`Refusal`] with a number of document 01's table, to which
+//! document 02 adds 27; no input makes one panic.
 //!
 //! Training and coding lend their buffers ([`refine`], [`update`], [`encode`], [`decode`]); `train` and `Coder` bring
-//! their own.
+//! their own. Frames of older collections, whose norm has four bytes, are written anew by [`to_f16`], and back by
+//! [`to_f32`].
 //!
 //! ```
 //! use nuqtelya::{train, Coder, Profile};
@@ -39,6 +40,7 @@ mod arithmetic;
 mod call;
 mod codebook;
 mod coder;
+mod convert;
 mod frame;
 mod norm;
 mod packing;
@@ -52,6 +54,7 @@ mod vectors;
 pub use arithmetic::{f16_to_f32, f64_to_f16, f64_to_f32, sqrt};
 pub use codebook::{check_codewords, codeword};
 pub use coder::{decode, encode, Code, Coder};
+pub use convert::{to_f16, to_f32};
 pub use frame::{parse_frame, write_frame, Frame, HEADER_LEN};
 pub use norm::{decode_norm, encode_norm};
 pub use packing::{pack_indices, unpack_indices};

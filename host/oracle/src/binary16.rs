@@ -1,5 +1,6 @@
 //! binary64 to binary16, rounded once, on exact whole numbers: a separate statement of what IEEE 754 describes, apart from
-//! the published code and its stand-ins. Document 02 (K3) has a norm and refusal 10 compared with such a one.
+//! the published code and its stand-ins. Document 02 (K3) has a norm and refusal 10 compared with such a one. Likewise the
+//! exact conversions between binary16 and binary32 that it (K9) asks for.
 
 use crate::answer::{refused, Answer};
 
@@ -78,4 +79,72 @@ fn nearest(units: u128) -> u16 {
     }
     let (below, above) = (units - in_units(low), in_units(low + 1) - units);
     low + u16::from(above < below || above == below && low % 2 == 1)
+}
+
+/// The pattern of the very value that a binary32 pattern stands for, where there is one. That value is finite and above
+/// zero.
+pub fn exact(single: u32) -> Option<u16> {
+    let (digits, exponent) = odd(single);
+    // Two to this is the last place that a value of this size has in binary16.
+    let last = (exponent + digits.ilog2() as i32 - 10).max(-24);
+    (last <= exponent && last <= 5).then(|| ((last + 24) << 10) as u16 + (digits << (exponent - last)) as u16)
+}
+
+/// What a binary32 pattern stands for, likewise: an odd number, and the power of two that it is multiplied by.
+fn odd(single: u32) -> (u32, i32) {
+    let (digits, exponent) = match (single >> 23, single & 0x7f_ffff) {
+        (0, digits) => (digits, -149),
+        (exponent, digits) => (0x80_0000 + digits, exponent as i32 - 150),
+    };
+    let zeros = digits.trailing_zeros();
+    (digits >> zeros, exponent + zeros as i32)
+}
+
+/// The binary32 pattern of a norm's value; none where the pattern is no norm's.
+pub fn to_binary32(pattern: u16) -> Option<u32> {
+    if !NORMS.contains(&pattern) {
+        return None;
+    }
+    let units = in_units(pattern);
+    let lead = units.ilog2();
+    // The first digit is not stored: it adds the one by which this exponent is too small.
+    let exponent = lead + 126 - UNIT as u32;
+    Some((exponent << 23) + (units << 23 >> lead) as u32)
+}
+
+#[cfg(test)]
+mod tests {
+    use super::*;
+    use crate::f16;
+    use std::collections::HashMap;
+
+    /// The binary32 pattern of a norm's value by the stand-in, which tests/samples.rs holds against the processor.
+    fn by_the_stand_in(pattern: u16) -> Option<u32> {
+        let value = f16(pattern).to_f32();
+        (value.is_finite() && value > 0.0).then_some(value.to_bits())
+    }
+
+    #[test]
+    fn every_pattern() {
+        for pattern in 0..=u16::MAX {
+            let single = to_binary32(pattern);
+            assert_eq!(single, by_the_stand_in(pattern), "{pattern:#x}");
+            if let Some(single) = single {
+                assert_eq!(exact(single), Some(pattern), "{single:#x}");
+            }
+        }
+    }
+
+    /// All values that binary16 has, in a list, decide for the binary32 patterns that may be those of its normal values,
+    /// and their neighbours.
+    #[test]
+    fn binary32_as_a_list_has_it() {
+        let list: HashMap<u32, u16> = (0..=u16::MAX).filter_map(|half| Some((by_the_stand_in(half)?, half))).collect();
+        assert_eq!(list.len(), 31_743);
+        for center in (1 << 13..0x7f80_0000).step_by(1 << 13) {
+            for single in center - 2..=center + 2 {
+                assert_eq!(exact(single), list.get(&single).copied(), "{single:#x}");
+            }
+        }
+    }
 }

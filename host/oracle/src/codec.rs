@@ -14,7 +14,7 @@ pub struct GpuStepReport {
 
 pub mod probe {
     use super::*;
-    use crate::answer::{refusal, Answer};
+    use crate::answer::{refusal, refused, Answer};
     use crate::binary16;
     use crate::codebook::probe::{codebook, located};
     use crate::profile::probe::Profile;
@@ -35,6 +35,11 @@ pub mod probe {
 
     pub fn decode_norm(bytes: &[u8]) -> Answer<f64> {
         super::decode_norm(bytes, &NormFormat::Fp16Paper).map_err(refusal)
+    }
+
+    /// The same of a norm of four bytes. Both texts by which the Rust refuses one are 10's.
+    pub fn decode_norm_f32(bytes: &[u8]) -> Answer<f64> {
+        super::decode_norm(bytes, &NormFormat::F32Reference).map_err(|_| refused(10, &[]))
     }
 
     /// Writes the length of a norm above 65,535 bytes cut off, unlike document 01.
@@ -94,11 +99,7 @@ pub mod probe {
                 let norm = [frame[NORM.start], frame[NORM.start + 1]];
                 (frame, Some(norm))
             }
-            Err((10, _)) => {
-                let indices: Vec<u32> = searches.iter().map(|search| search.index).collect();
-                let packed = pack_indices(&indices, profile.wire_index_bits).map_err(refusal)?;
-                (to_compact_bytes(profile.wire_index_bits, indices.len() as u32, &[0; 2], &packed), None)
-            }
+            Err((10, _)) => (frame_of(&searches, &[0; 2], profile)?, None),
             Err(refusal) => return Err(refusal),
         };
         frame[NORM].copy_from_slice(&binary16::norm(l2_norm(input))?.to_le_bytes());
@@ -111,9 +112,95 @@ pub mod probe {
         quantizer(codewords, matrix, profile)?.decode(&code).map_err(refusal)
     }
 
+    // Norms of four bytes. The Rust has their format, F32Reference, in its functions for norms alone: its encoder, decoder
+    // and reader of frames ask for the profile's digest, which refuses one that names it by 6. So here the profile names
+    // binary16, the norm is written and read by these functions, and all else is the encoder's and the decoder's.
+
+    /// The published encoder, but for the norm and refusal 10, which are those of four bytes.
+    pub fn encode_f32(input: &[f32], codewords: &[f32], matrix: &[f64], profile: &Profile) -> Answer<Vec<u8>> {
+        let (published, searches) = gpu_backend::watching(|| encode(input, codewords, matrix, profile));
+        match published {
+            Ok(_) | Err((10, _)) => {}
+            Err(refusal) => return Err(refusal),
+        }
+        let norm = super::encode_norm(l2_norm(input), &NormFormat::F32Reference).map_err(refusal)?;
+        frame_of(&searches, &norm, profile)
+    }
+
+    /// The steps of the published decoder, in its order.
+    pub fn decode_f32(bytes: &[u8], codewords: &[f32], matrix: &[f64], profile: &Profile) -> Answer<Vec<f32>> {
+        let code = FibCodeV1::from_compact_bytes(bytes, &profile.published()).map_err(refusal)?;
+        let quantizer = quantizer(codewords, matrix, profile)?;
+        quantizer.validate_code_header(&code).map_err(refusal)?;
+        let indices =
+            unpack_indices(&code.indices, code.block_count as usize, code.wire_index_bits).map_err(refusal)?;
+        let mut rotated = Vec::new();
+        for index in indices {
+            rotated.extend(quantizer.codebook.codeword(index as usize).map_err(refusal)?);
+        }
+        let norm = decode_norm_f32(&code.norm_payload)?;
+        let values = quantizer.rotation.apply_inverse(&rotated).map_err(refusal)?;
+        let values: Vec<f32> = values.into_iter().map(|value| (value * norm) as f32).collect();
+        check_finite(&values).map_err(refusal)?;
+        Ok(values)
+    }
+
+    /// The frame of the indices that were found, with this norm.
+    fn frame_of(searches: &[gpu_backend::Search], norm: &[u8], profile: &Profile) -> Answer<Vec<u8>> {
+        let indices: Vec<u32> = searches.iter().map(|search| search.index).collect();
+        let packed = pack_indices(&indices, profile.wire_index_bits).map_err(refusal)?;
+        Ok(to_compact_bytes(profile.wire_index_bits, indices.len() as u32, norm, &packed))
+    }
+
     fn quantizer(codewords: &[f32], matrix: &[f64], profile: &Profile) -> Answer<FibQuantizer> {
         // The rotation is made twice: once to check the codebook, once to be used.
         lend::matrices(vec![matrix.to_vec(); 2]);
         FibQuantizer::from_codebook(codebook(codewords, profile)).map_err(|error| located(codewords, error))
+    }
+}
+
+#[cfg(test)]
+mod tests {
+    use super::probe::*;
+    use crate::f16;
+    use crate::inputs::{fitting, Random};
+    use std::collections::BTreeSet;
+
+    /// The steps of `decode_f32` are the published decoder's: that reads the frame with the same norm in two bytes alike.
+    #[test]
+    fn norms_of_four_bytes_read() {
+        let mut random = Random::new(1);
+        let mut met = BTreeSet::new();
+        for _ in 0..20_000 {
+            let size = random.pick(&[1.0, 1.0, 2f64.powi(107)]);
+            let codewords: Vec<f32> = random.values(6).into_iter().map(|v| (v * size) as f32).collect();
+            let matrix = random.values(36);
+            let width = random.pick(&[2, 2, 2, 1]);
+            let packed = [random.bits() as u8 & random.pick(&[0x2a, 0x3f, 0xff])];
+            let half = random.pick(&[0x3c00, 0x7bff, 0x0001, 0x4248, 0x7c00, 0x0000]);
+            let old = to_compact_bytes(width, 3, &f16(half).to_f32().to_le_bytes(), &packed);
+            let new = to_compact_bytes(width, 3, &half.to_le_bytes(), &packed);
+            let read = decode_f32(&old, &codewords, &matrix, &fitting(6, 2, 3));
+            met.insert(read.as_ref().err().map_or(0, |(number, _)| *number));
+            let published = decode(&new, &codewords, &matrix, &fitting(6, 2, 3));
+            assert_eq!(format!("{read:?}"), format!("{published:?}"), "{old:?}");
+        }
+        assert_eq!(Vec::from_iter(met), [0, 9, 10, 11, 12, 17]);
+    }
+
+    /// `encode_f32` differs from the published encoder in the norm alone, and takes norms of any size.
+    #[test]
+    fn norms_of_four_bytes_written() {
+        let unit: Vec<f64> = (0..16).map(|i| f64::from(i % 5 == 0)).collect();
+        let (codewords, profile) = ([0.5, 0.5, -0.75, 0.25], fitting(4, 2, 2));
+        let written = |input: [f32; 4]| encode_f32(&input, &codewords, &unit, &profile);
+        let published = encode(&[3.0, 0.0, -4.0, 0.0], &codewords, &unit, &profile).unwrap();
+        for scale in [1.0, 2f32.powi(-60), 2f32.powi(60)] {
+            let norm = (5.0 * scale).to_le_bytes();
+            let expected = [&published[..9], &[4, 0], &norm, &published[NORM.end..]].concat();
+            assert_eq!(written([3.0 * scale, 0.0, -4.0 * scale, 0.0]).unwrap(), expected);
+        }
+        assert_eq!(written([f32::MAX; 4]).unwrap_err().0, 10);
+        assert_eq!(written([0.0; 4]).unwrap_err().0, 13);
     }
 }

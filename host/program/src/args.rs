@@ -71,6 +71,10 @@ impl Args {
         self.values.get(name).map(|value| value.to_string_lossy().into_owned())
     }
 
+    pub fn needed_text(&self, name: &str) -> Done<String> {
+        self.text(name).ok_or_else(|| Failure::Usage(format!("--{name} is missing")))
+    }
+
     pub fn number<T: FromStr>(&self, name: &str) -> Done<Option<T>> {
         let Some(text) = self.text(name) else { return Ok(None) };
         match text.parse() {

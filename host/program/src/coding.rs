@@ -1,4 +1,4 @@
-//! `encode` and `decode`: whole files, a part at a time, on all processors.
+//! `encode`, `decode` and `convert`: whole files, a part at a time, on all processors.
 
 use crate::args::Args;
 use crate::book::Book;
@@ -6,7 +6,7 @@ use crate::failure::{Done, Failure};
 use crate::files::{Input, Output};
 use crate::progress::Progress;
 use crate::{memory, report, say};
-use nuqtelya::{Coder, Profile, Refusal};
+use nuqtelya::{to_f16, to_f32, Coder, Profile, Refusal};
 use std::ffi::OsString;
 use std::path::Path;
 
@@ -35,6 +35,25 @@ pub fn decode_command(words: impl IntoIterator<Item = OsString>) -> Done<()> {
     Output::apart(&out, &[&book, &codes])?;
     let (count, size) = decode(&Book::read(&book)?, &codes, &out)?;
     say(&format!("{count} codes became vectors of {size} bytes: {} in {}\n", memory::size(count * size), out.display()))
+}
+
+pub fn convert_command(words: impl IntoIterator<Item = OsString>) -> Done<()> {
+    let args = Args::parse(words, &["codebook", "codes", "to", "out"], &[], 0)?;
+    let (book, codes, out) = (args.needed_path("codebook")?, args.needed_path("codes")?, args.needed_path("out")?);
+    let way = match args.needed_text("to")?.as_str() {
+        "binary16" => TO_BINARY16,
+        "binary32" => TO_BINARY32,
+        other => return Err(Failure::Usage(format!("--to {other}: binary16 or binary32"))),
+    };
+    Output::apart(&out, &[&book, &codes])?;
+    let (count, size) = convert(&Book::read(&book)?, &way, &codes, &out)?;
+    say(&format!(
+        "{count} codes with norms of {} bytes became codes with norms of {}: {} in {}\n",
+        way.from,
+        way.to,
+        memory::size(count * size),
+        out.display()
+    ))
 }
 
 /// The codes that were written.
@@ -84,7 +103,7 @@ pub fn decode(book: &Book, codes: &Path, out: &Path) -> Done<(u64, u64)> {
     let coder = coder(book)?;
     let size = coder.frame_len();
     let mut input = Input::open(codes)?;
-    let count = input.pieces(size as u64, "a code of this codebook")?;
+    let count = count_codes(&input, &coder)?;
     let mut output = Output::create(out)?;
     let mut parts = Parts::new("decoding", count);
     while let Some((first, len)) = parts.next() {
@@ -100,6 +119,50 @@ pub fn decode(book: &Book, codes: &Path, out: &Path) -> Done<(u64, u64)> {
     }
     output.finish()?;
     Ok((count, 4 * d as u64))
+}
+
+/// A direction of `convert`: the bytes of a norm before and after, and the library's function.
+struct Way {
+    from: usize,
+    to: usize,
+    write: fn(&Profile, &[u8], &mut [u8]) -> Result<(), Refusal>,
+}
+
+const TO_BINARY16: Way = Way { from: 4, to: 2, write: to_f16 };
+const TO_BINARY32: Way = Way { from: 2, to: 4, write: to_f32 };
+
+/// Writes all codes with norms of the other format; gives their number and the bytes of one.
+fn convert(book: &Book, way: &Way, codes: &Path, out: &Path) -> Done<(u64, u64)> {
+    let rest = coder(book)?.frame_len() - TO_BINARY16.to;
+    let (size, new) = (rest + way.from, rest + way.to);
+    let mut input = Input::open(codes)?;
+    let count = input.pieces(size as u64, &format!("a code (norm of {} bytes)", way.from))?;
+    let mut output = Output::create(out)?;
+    let mut parts = Parts::new("converting", count);
+    while let Some((first, len)) = parts.next() {
+        let mut bytes = vec![0u8; len * size];
+        input.bytes(&mut bytes)?;
+        let mut written = vec![0u8; len * new];
+        let made = on_all_processors((&bytes, size), (&mut written, new), || {
+            |code: &[u8], new: &mut [u8]| (way.write)(&book.profile, code, new)
+        });
+        made.map_err(|(place, refusal)| at(codes, "code", first + place, refusal))?;
+        output.bytes(&written)?;
+    }
+    output.finish()?;
+    Ok((count, new as u64))
+}
+
+/// How many codes of this codebook the file holds.
+pub fn count_codes(input: &Input, coder: &Coder) -> Done<u64> {
+    let size = coder.frame_len() as u64;
+    input.pieces(size, "a code of this codebook").map_err(|failure| match failure {
+        // As long as so many codes of the older kind.
+        Failure::File(text) if input.len() > 0 && input.len().is_multiple_of(size + 2) => {
+            Failure::File(format!("{text} (if their norms have four bytes, nuqtelya convert makes codes of them)"))
+        }
+        failure => failure,
+    })
 }
 
 /// The library's own test of codewords and matrix (18), which comes before a vector is encoded.

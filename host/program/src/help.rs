@@ -5,6 +5,7 @@ pub fn text(command: &str) -> &'static str {
         "train" => TRAIN,
         "encode" => ENCODE,
         "decode" => DECODE,
+        "convert" => CONVERT,
         "inspect" => INSPECT,
         "demo" => DEMO,
         _ => ALL,
@@ -17,6 +18,7 @@ nuqtelya: a vector quantiser whose training, writing and reading are proved
   nuqtelya train     trains a codebook on vectors or samples
   nuqtelya encode    stores vectors as codes, by a codebook
   nuqtelya decode    makes vectors of codes again
+  nuqtelya convert   rewrites codes whose norms have four bytes, and back
   nuqtelya inspect   shows what a file holds
   nuqtelya demo      all of it, on data that it makes itself
 
@@ -80,6 +82,18 @@ nuqtelya decode --codebook FILE --codes FILE --out FILE
 
 Writes the vector of each code as binary32 values. A code that is damaged or does not fit the codebook is refused with
 its place, counted from 0, and nothing is written.
+";
+
+const CONVERT: &str = "\
+nuqtelya convert --codebook FILE --codes FILE --to binary16|binary32 --out FILE
+
+Rewrites codes of an older collection, whose norms have four bytes (binary32, the Rust's F32Reference), as codes that
+encode and decode know (--to binary16); or such codes as older ones (--to binary32). Nothing but the norm changes: the
+converted code is read as the old one was with its norm of four bytes, and converting back gives the same file.
+
+Towards binary16 a norm is never rounded. A code whose norm binary16 does not hold exactly is refused (27), and so is a
+code that is damaged, does not fit the codebook, or has a norm of the other length (10); its place, counted from 0, is
+shown, and nothing is written. Every norm of binary16 can go back.
 ";
 
 const INSPECT: &str = "\

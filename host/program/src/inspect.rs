@@ -2,6 +2,7 @@
 
 use crate::args::Args;
 use crate::book::{Book, MAGIC};
+use crate::coding::count_codes;
 use crate::failure::{Done, Failure};
 use crate::files::Input;
 use crate::{report, say};
@@ -76,7 +77,7 @@ fn codes(path: &Path, codebook: Option<&Path>) -> Done<()> {
     let mut coder =
         Coder::new(book.profile, &book.matrix, &book.codewords).map_err(Failure::refused("the codebook"))?;
     let mut input = Input::open(path)?;
-    let count = input.pieces(coder.frame_len() as u64, "a code of this codebook")?;
+    let count = count_codes(&input, &coder)?;
     let mut used = vec![0u64; book.profile.codebook_size as usize];
     let mut bytes = vec![0; coder.frame_len()];
     let mut text = String::new();
@@ -105,8 +106,11 @@ fn codes(path: &Path, codebook: Option<&Path>) -> Done<()> {
 fn first_head(head: &[u8; HEADER_LEN]) -> String {
     let [_, _, _, version, width, a, b, c, d, low, high] = *head;
     let (count, norm) = (u32::from_le_bytes([a, b, c, d]), u16::from_le_bytes([low, high]));
+    let all = match norm {
+        4 => "nuqtelya convert makes codes of them that can be read",
+        _ => "--codebook FILE reads them all",
+    };
     format!(
-        "the first is of version {version}, with a norm of {norm} bytes and {count} indices of {width} bits (--codebook \
-         FILE reads them all)"
+        "the first is of version {version}, with a norm of {norm} bytes and {count} indices of {width} bits ({all})"
     )
 }

@@ -45,9 +45,10 @@ fn run(words: Vec<OsString>) -> Done<()> {
         "train" => train::command(rest),
         "encode" => coding::encode_command(rest),
         "decode" => coding::decode_command(rest),
+        "convert" => coding::convert_command(rest),
         "inspect" => inspect::command(rest),
         "demo" => demo::command(rest),
-        "" => Err(Failure::Usage("a command is missing: train, encode, decode, inspect or demo".into())),
+        "" => Err(Failure::Usage("a command is missing: train, encode, decode, convert, inspect or demo".into())),
         _ => Err(Failure::Usage(format!("unknown command {command}"))),
     }
 }

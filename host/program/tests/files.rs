@@ -244,6 +244,7 @@ fn no_output_takes_the_place_of_an_input() {
     for (command, inputs) in [
         ("encode --codebook book --vectors vectors", &["book", "vectors"][..]),
         ("decode --codebook book --codes codes", &["book", "codes"]),
+        ("convert --codebook book --codes codes --to binary32", &["book", "codes"]),
         (&format!("{train} --vectors vectors"), &["vectors"]),
         (&format!("{train} {given}"), &["samples", "start", "matrices", "rotation"]),
     ] {
@@ -275,6 +276,8 @@ fn wrong_use() {
         ("train --dim 8 --block 2 --codewords 4 --out x", "one of --vectors and --samples"),
         ("encode --codebook book --vectors", "--vectors needs a value"),
         ("encode --codebook book --speed 9", "unknown option --speed"),
+        ("convert --codebook book --codes vectors --out x", "--to is missing"),
+        ("convert --codebook book --codes vectors --out x --to f16", "--to f16: binary16 or binary32"),
         ("inspect", "the file to inspect is missing"),
     ] {
         folder.fails(words, 2, said);
@@ -350,6 +353,69 @@ fn a_norm_is_rounded_once() {
         folder.write("vectors", &bytes32(&[1.0, 0.0, 0.0, 0.0, 0.0, refused, 0.0, 0.0]));
         folder.fails(encode, 1, "vector 1: refused by 10");
     }
+}
+
+/// The codes of an older collection: those of today with the norm's length field and its value in four bytes.
+#[test]
+fn older_codes_are_converted_and_back() {
+    let folder = trained("older");
+    folder.done("encode --codebook book --vectors vectors --out codes");
+    let codes = folder.read("codes");
+    let older: Vec<u8> = codes.chunks_exact(14).flat_map(|code| older(code, &norm_of(code).to_le_bytes())).collect();
+    folder.write("older", &older);
+    assert!(folder.done("inspect older").contains("a norm of 4 bytes"));
+    folder.fails("decode --codebook book --codes older --out x", 3, "nuqtelya convert makes codes of them");
+    let said = folder.done("convert --codebook book --codes older --to binary16 --out newer");
+    assert!(said.contains("100 codes with norms of 4 bytes became codes with norms of 2: 1400 bytes"), "{said}");
+    assert_eq!(folder.read("newer"), codes);
+    folder.done("convert --codebook book --codes newer --to binary32 --out back");
+    assert_eq!(folder.read("back"), older);
+}
+
+/// One code that cannot be converted, and the file that was there stays.
+#[test]
+fn codes_that_cannot_be_converted() {
+    let folder = trained("inexact");
+    folder.done("encode --codebook book --vectors vectors --out codes");
+    let codes = folder.read("codes");
+    folder.write("out", b"the old ones");
+    let convert = "convert --codebook book --codes other --out out";
+    for (norm, said) in [
+        (1.0f32 + 1.0 / 2048.0, "other: code 57: refused by 27: the norm is not exact in binary16"),
+        (65_536.0, "code 57: refused by 27"),
+        (-1.0, "code 57: refused by 10"),
+        (f32::INFINITY, "code 57: refused by 10"),
+    ] {
+        let other = codes.chunks_exact(14).enumerate().flat_map(|(place, code)| {
+            let norm = if place == 57 { norm } else { norm_of(code) };
+            older(code, &norm.to_le_bytes())
+        });
+        folder.write("other", &other.collect::<Vec<u8>>());
+        folder.fails(&format!("{convert} --to binary16"), 1, said);
+    }
+    for (place, said) in [(14 * 20, "code 20: refused by 8"), (14 * 21 + 4, "code 21: refused by 8")] {
+        let mut other = codes.clone();
+        other[place] ^= 0x08;
+        folder.write("other", &other);
+        folder.fails(&format!("{convert} --to binary32"), 1, said);
+    }
+    folder.write("other", &codes);
+    folder.fails(
+        &format!("{convert} --to binary16"),
+        3,
+        "87 times a code (norm of 4 bytes) of 16 bytes, and 8 bytes more",
+    );
+    assert_eq!(folder.read("out"), b"the old ones");
+}
+
+/// The norm of a code of today.
+fn norm_of(code: &[u8]) -> f32 {
+    nuqtelya::decode_norm(&code[11..13]).expect("a norm") as f32
+}
+
+/// The same code with these four bytes for a norm.
+fn older(code: &[u8], norm: &[u8; 4]) -> Vec<u8> {
+    [&code[..9], &[4, 0], norm, &code[13..]].concat()
 }
 
 /// Between (2, 0) and (-2, 0) a block (0, 1) is a toss, and (1, 0) is none.

@@ -11,7 +11,8 @@ use Rattle.ieee.specs.Sum.{plus_zero}
 use Rattle.slices.specs.First.{count_where}
 use Rattle.slices.proofs.CountLaw.{count_upto}
 use Rattle.bitpack.specs.Layout.{packed_bytes}
-use Rattle.compact.specs.Frame.{bytes_of, frame_of}
+use Rattle.slices.specs.Bytes.{bytes_of}
+use Rattle.compact.specs.Frame.{frame_of}
 use Rattle.encode.specs.Encode.{norm_of, searched, indices_for, tied_for}
 use Rattle.encode.proofs.EncodeLaw.{seen}
 use Rattle.encode.proofs.write_code.Goals as goal

@@ -5,7 +5,8 @@ use native.Mathlib.Omega.{arith}
 use mathlib.Core.List.{List, ◌++◌, append-nil}
 use Prim.Native.Nat.{ℕ, ◌≤◌}
 use lib.ListN.{length, drop, drop_of_length-le}
-use Rattle.compact.specs.Frame.{bytes_of, header}
+use Rattle.slices.specs.Bytes.{bytes_of}
+use Rattle.compact.specs.Frame.{header}
 use Rattle.encode.proofs.write_front.Goals as goal
 
 joined : (n : ℕ) (head two out rest old : List ℕ) → out ≡ head ++ drop n old → length old ≤ n → rest ≡ two → out ++ rest ≡ head ++ two

@@ -3,6 +3,7 @@
 mod bitpack;
 mod codebook;
 mod codes;
+mod convert;
 mod decode;
 mod encode;
 mod frame;
@@ -21,7 +22,7 @@ use crate::run::{Outcome, Run};
 
 type Area = fn(&mut Run) -> Outcome;
 
-pub const ALL: [(&str, Area); 14] = [
+pub const ALL: [(&str, Area); 15] = [
     ("narrow", narrow::run),
     ("root", root::run),
     ("bitpack", bitpack::run),
@@ -36,4 +37,5 @@ pub const ALL: [(&str, Area); 14] = [
     ("norm", norm::run),
     ("encode", encode::run),
     ("decode", decode::run),
+    ("convert", convert::run),
 ];

@@ -2,7 +2,8 @@
 use mathlib.Core.Path.{◌≡◌}
 use mathlib.Core.List.{List, ◌++◌, append_assoc}
 use Prim.Native.Nat.{ℕ}
-use Rattle.compact.specs.Frame.{bytes_of, header, frame_of}
+use Rattle.slices.specs.Bytes.{bytes_of}
+use Rattle.compact.specs.Frame.{header, frame_of}
 use Rattle.encode.proofs.search.Search.write_frame.Goals as goal
 
 -- header, norm and indices are the frame

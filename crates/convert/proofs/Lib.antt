@@ -1,0 +1,3 @@
+pub mod WriteLaw
+pub mod ConvertLaw
+pub mod ExactLaw
