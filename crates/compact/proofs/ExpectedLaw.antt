@@ -1,10 +1,10 @@
--- What a frame that is as expected has shown, and that nothing else is asked of it. Assumes nothing.
+-- What a frame that is as expected has shown. Assumes nothing.
 use mathlib.Core.Path.{◌≡◌, sym}
 use mathlib.Core.List.{List, [], ◌∷◌}
 use Prim.Native.Nat.{ℕ, ◌*◌, ◌<◌}
 use native.Mathlib.Omega.{arith}
 use lib.Dec.{eqb}
-use borrow.Author.Tests.{eqb-true, eq-eqb, not-false}
+use borrow.Author.Tests.{eqb-true, not-false}
 use Rattle.error.specs.Names.{padding_bit_site}
 use Rattle.error.specs.Numbers.{Value, completed, refused, whole}
 use Rattle.error.proofs.Outcomes.{both, passed, never, after_test, after_check}
@@ -28,10 +28,6 @@ module _ (bits blocks : ℕ) (parts : Parts) where
         count = eqb-true parts.count blocks h.1;
         padding = eqb-true _ 0 (not-false _ (passed _ 9 (whole padding_bit_site ∷ []) _ tt (also_next (headed bits blocks parts) _ e)).0);
       }
-
-  pub meets : AsExpected bits blocks parts → expected bits blocks parts ≡ completed tt
-  unfolding expected
-  meets a = rw (eq-eqb parts.width bits a.width, eq-eqb parts.count blocks a.count, eq-eqb (padding_from parts.indices (parts.count * parts.width)) 0 a.padding)
 
   -- it refuses by no number above 17
   pub expected_not : (m : ℕ) (us : List Value) → 17 < m → expected bits blocks parts ≡ refused m us → ⊥

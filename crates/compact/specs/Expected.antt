@@ -1,4 +1,4 @@
--- What is expected of a frame by who knows the width of an index and the number of blocks: 17, then 9. Definitions only.
+-- What a reader who knows the width of an index and the number of blocks asks of a frame: 17, then 9. Definitions only.
 use Rattle.std.specs.Prelude.{ℕ, ◌*◌, not, ◌&&◌, cond, [], ◌∷◌, eqb}
 use Rattle.error.specs.Names.{padding_bit_site}
 use Rattle.error.specs.Numbers.{Outcome, completed, refused, whole, also}
@@ -11,7 +11,7 @@ headed bits blocks parts =
     cond (not (eqb parts.width bits && eqb parts.count blocks)) (refused 17 [])
     (completed tt)
 
--- 9: no padding bit is set
+-- 9: no padding bit is set. Sites 1 and 2 can't come under a valid profile: `only_padding` of decode's DecodeLaw.antt.
 abbrev pub unpadded : Parts → Outcome Unit
 unpadded parts =
     let padding = padding_from parts.indices (parts.count * parts.width) in

@@ -145,7 +145,7 @@ pub fn index_part<'a>(bytes: &'a [u8], frame: CompactFrame) -> &'a [u8]
 }
 
 // A parsed frame against the width and the number of blocks that its reader expects, and its
-// padding bits. Public only for who reads a frame under a profile.
+// padding bits. Public only for the crates that read a frame under a profile.
 #[tactic(auto, unfolding(crate::specs::Expected::expected), using(crate::proofs::FrameLaws::length_indices))]
 pub fn check_expected(
     bytes: &[u8],
@@ -162,8 +162,8 @@ pub fn check_expected(
     if frame.block_count != count {
         return Err(Refusal::CodeHeader);
     }
-    let spare = bitpack::padding(index_part(bytes, frame), count as u64 * width as u64);
-    if spare != 0 {
+    let total = frame.block_count as u64 * frame.width as u64;
+    if bitpack::padding(index_part(bytes, frame), total) != 0 {
         return Err(Refusal::PackedIndices(PackingSite::PaddingBit));
     }
     Ok(())

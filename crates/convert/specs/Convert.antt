@@ -37,7 +37,8 @@ convert_call_of g bytes = convert_call g.profile g.schema.now g.rotation_algorit
 
 -- ---- the norm in the other format
 
--- the norm x in two bytes, or 27: where the pattern that x is rounded to has another value, none has x's
+-- The norm x in two bytes. If a pattern of binary16 stands for x, rounding gives it; so where the rounded pattern stands for
+-- another number, none stands for x, and 27 comes.
 unfoldable pub f16_bytes : Float → Outcome (List ℕ)
 f16_bytes x =
     let bits = packed 11 15 x in
@@ -50,15 +51,15 @@ f32_bytes x = completed (bytes_of 4 (packed 24 127 x))
 -- ---- the frame
 
 -- the profile, and then the frame's width and number of blocks (17) and its padding (9) by the profile's numbers
-unfoldable pub framed : ConvertCall → Parts → Outcome Unit
-framed c parts =
+unfoldable pub checked : ConvertCall → Parts → Outcome Unit
+checked c parts =
     let p = c.profile in
     also (validity p c.schema c.algorithm c.log2)
     (expected p.wire_index_bits (p.ambient_dim / p.block_dim) parts)
 
 -- these, and the norm by its rule (10): its value
 unfoldable pub norm_by : (List ℕ → Outcome Float) → ConvertCall → Parts → Outcome Float
-norm_by rule c parts = also (framed c parts) (rule parts.norm)
+norm_by rule c parts = also (checked c parts) (rule parts.norm)
 
 -- the same width, number of blocks and index bytes with another norm, for an output of just that length (7)
 abbrev pub with_norm : ℕ → Parts → List ℕ → Outcome (List ℕ)

@@ -7,18 +7,18 @@ ghost use Rattle.std.specs.Prelude.{◌≡◌, ◌≤◌, length};
 ghost use Rattle.error.specs.Numbers.{outcome, completed, accepted, contents};
 ghost use Rattle.compact.specs.Frame.{parsed, parts_of};
 ghost use Rattle.norm.specs.Norm.{norm_value, norm_value_f32};
-ghost use Rattle.convert.specs.Convert.{convert_call_of, f16_bytes, framed, norm_by, with_norm, to_f16, to_f32};
+ghost use Rattle.convert.specs.Convert.{convert_call_of, f16_bytes, checked, norm_by, with_norm, to_f16, to_f32};
 
 use compact::CompactFrame;
 use error::Refusal;
 use profile::GivenProfile;
 
 // The profile, and the frame against its numbers. The indices are not tested.
-#[tactic(auto, unfolding(crate::specs::Convert::framed), using(profile::proofs::Facts::valid))]
+#[tactic(auto, unfolding(crate::specs::Convert::checked), using(profile::proofs::Facts::valid))]
 fn check_frame(given: GivenProfile<'_>, bytes: &[u8], frame: CompactFrame) -> Result<(), Refusal>
     requires { parsed bytes.now ≡ completed (parts_of bytes.now frame) }
     ensures { let c = convert_call_of given.entry bytes.now in
-        outcome result ≡ framed c (parts_of bytes.now frame) }
+        outcome result ≡ checked c (parts_of bytes.now frame) }
 {
     given.validate()?;
     let width = given.profile.wire_index_bits;

@@ -102,7 +102,7 @@ below n indices = offending n indices (first_where (λ i. not (ltb (get_or indic
 abbrev pub indices_of : Parts → List ℕ
 indices_of parts = unpacked_indices parts.indices parts.count parts.width
 
--- 17, 9 and 11. Sites 1 and 2 of 9 can't come: `only_padding` of proofs/DecodeLaw.antt.
+-- 17, 9 and 11
 unfoldable pub indexed : ℕ → ℕ → ℕ → Parts → Outcome Unit
 indexed bits blocks n parts = also (expected bits blocks parts) (below n (indices_of parts))
 
@@ -116,8 +116,9 @@ only_finite xs = unless xs (first_not_finite xs)
 
 -- ---- decoding
 
--- The parts of a frame, through every check but the last: the value of the norm, which is read by this rule.
--- Document 01's is norm_value; claim_codes has what K9's older frames stand for, by another.
+-- The parts of a frame, through every check but the last: the value of the norm, which is read by this rule. Document 01's
+-- is norm_value. With norm_value_f32 it says what one of document 02's older frames (K9) stands for, which no program
+-- decodes: claim_codes says so of what such a frame is converted to.
 unfoldable pub readable_by : (List ℕ → Outcome Float) → DecodeCall → Parts → Outcome Float
 readable_by rule c parts =
     let d = c.profile.ambient_dim in

@@ -1,6 +1,6 @@
-// What every entry point can refuse with: the refusals of the fib-quant port, a case for each
-// row of the table of numbers, and one more for a rate. specs/Numbers.antt sets out the
-// number and the values of each case; every contract above that can refuse speaks through it.
+// What every entry point can refuse with: a case for each row of document 01's table of numbers,
+// one more for a rate, and document 02's 27. specs/Numbers.antt sets out the number and the
+// values of each case; every contract above that can refuse speaks through it.
 #![tactic(auto)]
 
 mod names;

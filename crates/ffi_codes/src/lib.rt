@@ -3,5 +3,5 @@
 
 mod codewords;
 mod coding;
-mod norms;
+mod conversion;
 mod search;

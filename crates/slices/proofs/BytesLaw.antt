@@ -43,9 +43,3 @@ number_below [] h = omega arith
 number_below (b ∷ bs) h =
     let hb : b < 256 = h 0 (omega arith) in
     omega (arith, one_more (length bs), number_below bs (λ i l. h (suc i) (omega arith)))
-
-pub of_bytes : (n v : ℕ) → Bytes (bytes_of n v)
-unfolding bytes_of
-of_bytes zero v i l = omega arith
-of_bytes (suc n) v zero l = omega arith
-of_bytes (suc n) v (suc i) l = of_bytes n (v / 256) i (omega arith)

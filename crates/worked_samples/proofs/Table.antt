@@ -23,7 +23,7 @@ use Rattle.lloyd_cells.specs.Cells.{count_to, cell_sum, farthest}
 use Rattle.lloyd_cells.specs.Repair.{donor_to, repair_to}
 use Rattle.lloyd_cells.specs.Update.{updated}
 use Rattle.encode.specs.Encode.{norm_of}
-use Rattle.convert.specs.Convert.{framed, norm_by, f16_bytes, f32_bytes}
+use Rattle.convert.specs.Convert.{checked, norm_by, f16_bytes, f32_bytes}
 use Rattle.worked_samples.specs.Table.{Hold, table, update, float, floats, split_row, no_direction_row, no_donor_row, nearest_row, mean_row, width_row, one_codeword_row, packing_row, padding_row, frame_row, norm_row, small_norm_row, once_row, converted_row, exact_row, narrowing_row, root_row, profile_row}
 
 split_row_holds : split_row.given ≡ split_row.stated
@@ -79,7 +79,7 @@ unfolding once_row float floats of_int round size span climb units odd sum add s
 once_row_holds = refl
 
 converted_row_holds : converted_row.given ≡ converted_row.stated
-unfolding converted_row paper_of profile_of shape_of validity numbers_of rates_of settings_of same_bytes profile_schema rotation_algorithm ascii of_int round size span climb units odd sum add sub neg div lt eq le ne count_trailing_zeros bits field stream_bit bytes_of number_of header frame_of parsed expected framed norm_by value_of f16_bytes f32_bytes unpacked units_of mag_of packed
+unfolding converted_row paper_of profile_of shape_of validity numbers_of rates_of settings_of same_bytes profile_schema rotation_algorithm ascii of_int round size span climb units odd sum add sub neg div lt eq le ne count_trailing_zeros bits field stream_bit bytes_of number_of header frame_of parsed expected checked norm_by value_of f16_bytes f32_bytes unpacked units_of mag_of packed
 converted_row_holds = refl
 
 exact_row_holds : exact_row.given ≡ exact_row.stated

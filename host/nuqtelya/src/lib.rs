@@ -6,8 +6,8 @@
 //! document 02 adds 27; no input makes one panic.
 //!
 //! Training and coding lend their buffers ([`refine`], [`update`], [`encode`], [`decode`]); `train` and `Coder` bring
-//! their own. Frames of older collections, whose norm has four bytes, are written anew by [`to_f16`], and back by
-//! [`to_f32`].
+//! their own. Frames of older collections, whose norm has four bytes, are written anew by [`frame_to_f16`], and back by
+//! [`frame_to_f32`].
 //!
 //! ```
 //! use nuqtelya::{train, Coder, Profile};
@@ -54,7 +54,7 @@ mod vectors;
 pub use arithmetic::{f16_to_f32, f64_to_f16, f64_to_f32, sqrt};
 pub use codebook::{check_codewords, codeword};
 pub use coder::{decode, encode, Code, Coder};
-pub use convert::{to_f16, to_f32};
+pub use convert::{frame_to_f16, frame_to_f32};
 pub use frame::{parse_frame, write_frame, Frame, HEADER_LEN};
 pub use norm::{decode_norm, encode_norm};
 pub use packing::{pack_indices, unpack_indices};

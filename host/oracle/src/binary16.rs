@@ -1,6 +1,6 @@
 //! binary64 to binary16, rounded once, on exact whole numbers: a separate statement of what IEEE 754 describes, apart from
-//! the published code and its stand-ins. Document 02 (K3) has a norm and refusal 10 compared with such a one. Likewise the
-//! exact conversions between binary16 and binary32 that it (K9) asks for.
+//! the published code and its stand-ins. Document 02 (K3) has a norm and refusal 10 compared with such a one. And the exact
+//! conversions between binary16 and binary32 that its K9 asks for, likewise.
 
 use crate::answer::{refused, Answer};
 
@@ -135,8 +135,8 @@ mod tests {
         }
     }
 
-    /// All values that binary16 has, in a list, decide for the binary32 patterns that may be those of its normal values,
-    /// and their neighbours.
+    /// All values that binary16 has, in a list, decide for every 2^13th pattern of binary32, which its values are among,
+    /// and for their neighbours.
     #[test]
     fn binary32_as_a_list_has_it() {
         let list: HashMap<u32, u16> = (0..=u16::MAX).filter_map(|half| Some((by_the_stand_in(half)?, half))).collect();

@@ -6,12 +6,17 @@ use crate::failure::{Done, Failure};
 use crate::files::{Input, Output};
 use crate::progress::Progress;
 use crate::{memory, report, say};
-use nuqtelya::{to_f16, to_f32, Coder, Profile, Refusal};
+use nuqtelya::{frame_to_f16, frame_to_f32, Coder, Profile, Refusal, HEADER_LEN};
 use std::ffi::OsString;
 use std::path::Path;
 
-/// Vectors that are in memory at a time for each thread: enough to make a thread worth starting.
+/// Vectors, or codes, that are in memory at a time for each thread: enough to make a thread worth starting.
 const SHARE: usize = 64;
+const CONVERTED_SHARE: usize = 4096;
+
+/// The bytes of a norm: binary16, and the binary32 of older codes.
+const NORM: u16 = 2;
+pub const OLDER_NORM: u16 = 4;
 
 pub fn encode_command(words: impl IntoIterator<Item = OsString>) -> Done<()> {
     let args = Args::parse(words, &["codebook", "vectors", "out"], &[], 0)?;
@@ -75,7 +80,7 @@ pub fn encode(book: &Book, vectors: &Path, out: &Path) -> Done<Encoded> {
     let count = input.pieces(4 * d as u64, "a vector")?;
     let mut output = Output::create(out)?;
     let mut encoded = Encoded { count, size: size as u64, tied_blocks: 0, tied_codes: 0 };
-    let mut parts = Parts::new("encoding", count);
+    let mut parts = Parts::new("encoding", count, SHARE);
     while let Some((first, len)) = parts.next() {
         let mut values = vec![0.0f32; len * d];
         input.f32s(&mut values)?;
@@ -99,70 +104,92 @@ pub fn encode(book: &Book, vectors: &Path, out: &Path) -> Done<Encoded> {
 
 /// Writes the vectors of all codes; gives their number and the bytes of one.
 pub fn decode(book: &Book, codes: &Path, out: &Path) -> Done<(u64, u64)> {
-    let d = book.profile.ambient_dim as usize;
     let coder = coder(book)?;
-    let size = coder.frame_len();
     let mut input = Input::open(codes)?;
     let count = count_codes(&input, &coder)?;
-    let mut output = Output::create(out)?;
-    let mut parts = Parts::new("decoding", count);
-    while let Some((first, len)) = parts.next() {
-        let mut bytes = vec![0u8; len * size];
-        input.bytes(&mut bytes)?;
-        let mut values = vec![0.0f32; len * d];
-        let made = on_all_processors((&bytes, size), (&mut values, d), || {
-            let mut coder = coder.clone();
-            move |code: &[u8], vector: &mut [f32]| coder.decode(code).map(|made| vector.copy_from_slice(&made))
-        });
-        made.map_err(|(place, refusal)| at(codes, "code", first + place, refusal))?;
-        output.f32s(&values)?;
-    }
-    output.finish()?;
-    Ok((count, 4 * d as u64))
+    let sizes = (coder.frame_len(), 4 * book.profile.ambient_dim as usize);
+    rewrite(&mut input, sizes, Parts::new("decoding", count, SHARE), out, || {
+        let mut coder = coder.clone();
+        move |code: &[u8], vector: &mut [u8]| {
+            let values = coder.decode(code)?;
+            vector
+                .chunks_exact_mut(4)
+                .zip(values)
+                .for_each(|(bytes, value)| bytes.copy_from_slice(&value.to_le_bytes()));
+            Ok(())
+        }
+    })?;
+    Ok((count, sizes.1 as u64))
 }
 
 /// A direction of `convert`: the bytes of a norm before and after, and the library's function.
 struct Way {
-    from: usize,
-    to: usize,
+    from: u16,
+    to: u16,
     write: fn(&Profile, &[u8], &mut [u8]) -> Result<(), Refusal>,
 }
 
-const TO_BINARY16: Way = Way { from: 4, to: 2, write: to_f16 };
-const TO_BINARY32: Way = Way { from: 2, to: 4, write: to_f32 };
+const TO_BINARY16: Way = Way { from: OLDER_NORM, to: NORM, write: frame_to_f16 };
+const TO_BINARY32: Way = Way { from: NORM, to: OLDER_NORM, write: frame_to_f32 };
 
-/// Writes all codes with norms of the other format; gives their number and the bytes of one.
+/// Writes all codes with norms of the other format; gives their number and the bytes of one. A file whose length does not
+/// fit ends with a code that is cut, and is refused at that if not before.
 fn convert(book: &Book, way: &Way, codes: &Path, out: &Path) -> Done<(u64, u64)> {
-    let rest = coder(book)?.frame_len() - TO_BINARY16.to;
-    let (size, new) = (rest + way.from, rest + way.to);
+    let size = |norm: u16| Ok(coder(book)?.frame_len() - usize::from(NORM) + usize::from(norm));
+    let sizes = (size(way.from)?, size(way.to)?);
     let mut input = Input::open(codes)?;
-    let count = input.pieces(size as u64, &format!("a code (norm of {} bytes)", way.from))?;
-    let mut output = Output::create(out)?;
-    let mut parts = Parts::new("converting", count);
-    while let Some((first, len)) = parts.next() {
-        let mut bytes = vec![0u8; len * size];
-        input.bytes(&mut bytes)?;
-        let mut written = vec![0u8; len * new];
-        let made = on_all_processors((&bytes, size), (&mut written, new), || {
-            |code: &[u8], new: &mut [u8]| (way.write)(&book.profile, code, new)
-        });
-        made.map_err(|(place, refusal)| at(codes, "code", first + place, refusal))?;
-        output.bytes(&written)?;
+    let count = input.parts(sizes.0 as u64)?;
+    if first_norm(codes)? == Some(way.to) {
+        return Err(Failure::file(codes, format!("has a first code whose norm has {} bytes already", way.to)));
     }
-    output.finish()?;
-    Ok((count, new as u64))
+    rewrite(&mut input, sizes, Parts::new("converting", count, CONVERTED_SHARE), out, || {
+        |code: &[u8], new: &mut [u8]| (way.write)(&book.profile, code, new)
+    })?;
+    Ok((count, sizes.1 as u64))
+}
+
+/// Makes a piece of the output, of `new` bytes, from each code of `size` bytes; refuses at the first that is refused.
+fn rewrite<W: FnMut(&[u8], &mut [u8]) -> Result<(), Refusal>>(
+    codes: &mut Input,
+    (size, new): (usize, usize),
+    mut parts: Parts,
+    out: &Path,
+    worker: impl Fn() -> W + Sync,
+) -> Done<()> {
+    let mut output = Output::create(out)?;
+    let mut left = codes.len();
+    while let Some((first, len)) = parts.next() {
+        let held = left.min((len * size) as u64);
+        left -= held;
+        let mut bytes = vec![0u8; held as usize];
+        codes.bytes(&mut bytes)?;
+        let mut made = vec![0u8; len * new];
+        on_all_processors((&bytes, size), (&mut made, new), &worker)
+            .map_err(|(place, refusal)| at(codes.path(), "code", first + place, refusal))?;
+        output.bytes(&made)?;
+    }
+    output.finish()
 }
 
 /// How many codes of this codebook the file holds.
 pub fn count_codes(input: &Input, coder: &Coder) -> Done<u64> {
-    let size = coder.frame_len() as u64;
-    input.pieces(size, "a code of this codebook").map_err(|failure| match failure {
-        // As long as so many codes of the older kind.
-        Failure::File(text) if input.len() > 0 && input.len().is_multiple_of(size + 2) => {
-            Failure::File(format!("{text} (if their norms have four bytes, nuqtelya convert makes codes of them)"))
-        }
-        failure => failure,
-    })
+    if first_norm(input.path())? == Some(OLDER_NORM) {
+        let text =
+            "has a first code whose norm has four bytes: nuqtelya convert makes codes of such a file that can be read";
+        return Err(Failure::file(input.path(), text));
+    }
+    input.pieces(coder.frame_len() as u64, "a code of this codebook")
+}
+
+/// The norm's length in the head of the first code, if the file begins with one.
+fn first_norm(codes: &Path) -> Done<Option<u16>> {
+    let mut input = Input::open(codes)?;
+    let mut head = [0; HEADER_LEN];
+    if input.len() < HEADER_LEN as u64 {
+        return Ok(None);
+    }
+    input.bytes(&mut head)?;
+    Ok(head.starts_with(b"FB1\x01").then(|| u16::from_le_bytes([head[9], head[10]])))
 }
 
 /// The library's own test of codewords and matrix (18), which comes before a vector is encoded.
@@ -186,18 +213,20 @@ fn threads() -> usize {
 struct Parts {
     done: u64,
     all: u64,
+    share: usize,
     progress: Progress,
 }
 
 impl Parts {
-    fn new(what: &'static str, all: u64) -> Parts {
-        Parts { done: 0, all, progress: Progress::new(what) }
+    /// So many at a time for each thread.
+    fn new(what: &'static str, all: u64, share: usize) -> Parts {
+        Parts { done: 0, all, share, progress: Progress::new(what) }
     }
 
     fn next(&mut self) -> Option<(u64, usize)> {
         self.progress.show(self.done, self.all);
         let first = self.done;
-        let len = (self.all - first).min((SHARE * threads()) as u64);
+        let len = (self.all - first).min((self.share * threads()) as u64);
         self.done += len;
         (len > 0).then_some((first, len as usize))
     }
@@ -210,7 +239,7 @@ fn on_all_processors<I: Sync, O: Send, A: Send, W: FnMut(&[I], &mut [O]) -> Resu
     (output, output_size): (&mut [O], usize),
     worker: impl Fn() -> W + Sync,
 ) -> Result<Vec<A>, (u64, Refusal)> {
-    let share = (input.len() / input_size).div_ceil(threads());
+    let share = input.len().div_ceil(input_size).div_ceil(threads());
     let inputs = input.chunks(share * input_size);
     let outputs = output.chunks_mut(share * output_size);
     std::thread::scope(|scope| {

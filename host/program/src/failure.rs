@@ -63,8 +63,8 @@ fn advice(number: u32) -> &'static str {
         14 => " (--empty-cells split fills them)",
         16 => " (its samples are all but equal: fewer codewords, or samples that differ more)",
         17 => " (are these the codes of this codebook?)",
-        27 => " (nothing is rounded: its vector would have to be encoded anew)",
         19 => " (--event-slots gives more)",
+        27 => " (nothing is rounded; who has its vector can encode that)",
         _ => "",
     }
 }

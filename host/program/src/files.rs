@@ -38,11 +38,17 @@ impl Input {
         self.len
     }
 
+    /// How many pieces of `size` bytes the file holds, the last of which may be cut: at least one.
+    pub fn parts(&self, size: u64) -> Done<u64> {
+        match self.len {
+            0 => Err(Failure::file(&self.path, "is empty")),
+            len => Ok(len.div_ceil(size)),
+        }
+    }
+
     /// How many pieces of `size` bytes the file holds: a whole number and at least one. `what` names a piece.
     pub fn pieces(&self, size: u64, what: &str) -> Done<u64> {
-        if self.len == 0 {
-            return Err(Failure::file(&self.path, "is empty"));
-        }
+        let parts = self.parts(size)?;
         if !self.len.is_multiple_of(size) {
             let whole = self.len / size;
             let text = format!(
@@ -52,7 +58,7 @@ impl Input {
             );
             return Err(Failure::file(&self.path, text));
         }
-        Ok(self.len / size)
+        Ok(parts)
     }
 
     /// Tests the length of a file that holds one thing.

@@ -2,7 +2,7 @@
 
 use crate::args::Args;
 use crate::book::{Book, MAGIC};
-use crate::coding::count_codes;
+use crate::coding::{count_codes, OLDER_NORM};
 use crate::failure::{Done, Failure};
 use crate::files::Input;
 use crate::{report, say};
@@ -107,7 +107,7 @@ fn first_head(head: &[u8; HEADER_LEN]) -> String {
     let [_, _, _, version, width, a, b, c, d, low, high] = *head;
     let (count, norm) = (u32::from_le_bytes([a, b, c, d]), u16::from_le_bytes([low, high]));
     let all = match norm {
-        4 => "nuqtelya convert makes codes of them that can be read",
+        OLDER_NORM => "nuqtelya convert makes codes of them that can be read",
         _ => "--codebook FILE reads them all",
     };
     format!(

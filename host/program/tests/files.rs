@@ -364,7 +364,9 @@ fn older_codes_are_converted_and_back() {
     let older: Vec<u8> = codes.chunks_exact(14).flat_map(|code| older(code, &norm_of(code).to_le_bytes())).collect();
     folder.write("older", &older);
     assert!(folder.done("inspect older").contains("a norm of 4 bytes"));
-    folder.fails("decode --codebook book --codes older --out x", 3, "nuqtelya convert makes codes of them");
+    for read in ["decode --codebook book --codes older --out x", "inspect older --codebook book"] {
+        folder.fails(read, 3, "older: has a first code whose norm has four bytes: nuqtelya convert");
+    }
     let said = folder.done("convert --codebook book --codes older --to binary16 --out newer");
     assert!(said.contains("100 codes with norms of 4 bytes became codes with norms of 2: 1400 bytes"), "{said}");
     assert_eq!(folder.read("newer"), codes);
@@ -399,12 +401,20 @@ fn codes_that_cannot_be_converted() {
         folder.write("other", &other);
         folder.fails(&format!("{convert} --to binary32"), 1, said);
     }
+    // The wrong direction, the codes of another codebook, one code cut, and older codes among others.
     folder.write("other", &codes);
-    folder.fails(
-        &format!("{convert} --to binary16"),
-        3,
-        "87 times a code (norm of 4 bytes) of 16 bytes, and 8 bytes more",
-    );
+    folder.fails(&format!("{convert} --to binary16"), 3, "other: has a first code whose norm has 2 bytes already");
+    folder.done("train --dim 8 --block 4 --codewords 16 --vectors vectors --out book4");
+    folder.done("encode --codebook book4 --vectors vectors --out other");
+    folder.fails(&format!("{convert} --to binary32"), 1, "code 0: refused by 17");
+    folder.write("other", &codes[..14 * 30 + 9]);
+    folder.fails(&format!("{convert} --to binary32"), 1, "code 30: refused by 8: compact frame: under 11 bytes");
+    let among = codes.chunks_exact(14).enumerate().flat_map(|(place, code)| match place {
+        40 => older(code, &1f32.to_le_bytes()),
+        _ => code.to_vec(),
+    });
+    folder.write("other", &among.collect::<Vec<u8>>());
+    folder.fails(&format!("{convert} --to binary32"), 1, "code 40: refused by 8");
     assert_eq!(folder.read("out"), b"the old ones");
 }
 

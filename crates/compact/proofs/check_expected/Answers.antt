@@ -5,7 +5,5 @@ use Rattle.compact.specs.Frame.{parts_of}
 use Rattle.compact.proofs.FrameLaws.{length_indices}
 use Rattle.compact.proofs.check_expected.Goals as goal
 
-pub padding-spare-requires : goal.padding-spare-requires
-padding-spare-requires c =
-    rw (c.if-frame-width.false, c.if-frame-count.false)
-    at (ap length c.index_part.ensures ∙ length_indices c.args.bytes.now (parts_of c.args.bytes.now c.args.frame) c.requires)
+pub padding-requires : goal.padding-requires
+padding-requires c = ap length c.index_part.ensures ∙ length_indices c.args.bytes.now (parts_of c.args.bytes.now c.args.frame) c.requires

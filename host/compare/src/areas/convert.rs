@@ -20,6 +20,7 @@ pub fn run(run: &mut Run) -> Outcome {
     four_bytes(run)?;
     small(run)?;
     wrong(run)?;
+    long(run)?;
     for _ in 0..run.rounds(10_000) {
         random(run)?;
     }
@@ -47,9 +48,10 @@ struct Way {
     proved: fn(&nuqtelya::Profile, &[u8], &mut [u8]) -> Result<(), nuqtelya::Refusal>,
 }
 
-const TO_F16: Way = Way { name: "to_f16", from: 4, to: 2, shows: TO_TWO, norm: two_bytes_of, proved: nuqtelya::to_f16 };
+const TO_F16: Way =
+    Way { name: "frame_to_f16", from: 4, to: 2, shows: TO_TWO, norm: two_bytes_of, proved: nuqtelya::frame_to_f16 };
 const TO_F32: Way =
-    Way { name: "to_f32", from: 2, to: 4, shows: TO_FOUR, norm: four_bytes_of, proved: nuqtelya::to_f32 };
+    Way { name: "frame_to_f32", from: 2, to: 4, shows: TO_FOUR, norm: four_bytes_of, proved: nuqtelya::frame_to_f32 };
 
 impl Way {
     /// How long the new frame is, where the old one's norm has the right length.
@@ -68,12 +70,13 @@ impl Way {
 
 /// A norm of four bytes in two: 10 as the published reader has it, then 27 unless binary16 has the very value.
 fn two_bytes_of(norm: &[u8]) -> Answer<Vec<u8>> {
-    probe::decode_norm_f32(norm)?;
+    let value = probe::decode_norm_f32(norm)?;
     let single = u32::from_le_bytes(norm.try_into().expect("four bytes"));
-    match binary16::exact(single) {
-        Some(half) => Ok(half.to_le_bytes().to_vec()),
-        None => refused(27, &[]),
-    }
+    let Some(half) = binary16::exact(single) else { return refused(27, &[]) };
+    let half = half.to_le_bytes();
+    let read = probe::decode_norm(&half)?;
+    assert_eq!(read, value, "the Rust reads the two bytes as it reads the four");
+    Ok(half.to_vec())
 }
 
 /// A norm of two bytes in four: 10 unless the two are those of a finite value above zero.
@@ -420,6 +423,21 @@ fn random(run: &mut Run) -> Outcome {
     for _ in 0..4 {
         let damaged = damage(&mut run.random, good.clone());
         both(run, &setup, &damaged)?;
+    }
+    Ok(())
+}
+
+/// As many blocks as a profile allows, and so many that their number has two bytes.
+fn long(run: &mut Run) -> Outcome {
+    for (blocks, k, n) in [(4_096, 1, 300), (300, 2, 1_000)] {
+        let setup = setup(blocks, k, n);
+        for _ in 0..20 {
+            let indices = any_indices(&mut run.random, &setup);
+            let good = frame(&setup, &indices, &norm(&mut run.random));
+            both(run, &setup, &good)?;
+            let damaged = damage(&mut run.random, good);
+            both(run, &setup, &damaged)?;
+        }
     }
     Ok(())
 }

@@ -1,4 +1,4 @@
-// Norms of the other format for the host. The fields of a profile are those of `fib_validate_profile`.
+// Frames with their norm in the other format, for the host. The fields of a profile are those of `fib_validate_profile`.
 ghost use Rattle.std.specs.Prelude.{◌≡◌, length};
 ghost use Rattle.error.specs.Numbers.{accepted, contents};
 ghost use Rattle.convert.specs.Convert.{convert_call, to_f16, to_f32};
@@ -10,7 +10,7 @@ use profile::GivenProfile;
 
 // A frame whose norm has four bytes, with one of two, into `output`, which must be as long as it.
 #[unsafe(no_mangle)]
-pub extern "C" fn fib_to_f16(
+pub extern "C" fn fib_frame_to_f16(
     schema: &[u8],
     ambient_dim: u32,
     block_dim: u32,
@@ -73,7 +73,7 @@ pub extern "C" fn fib_to_f16(
 
 // A frame whose norm has two bytes, with one of four, into `output`, which must be as long as it.
 #[unsafe(no_mangle)]
-pub extern "C" fn fib_to_f32(
+pub extern "C" fn fib_frame_to_f32(
     schema: &[u8],
     ambient_dim: u32,
     block_dim: u32,
