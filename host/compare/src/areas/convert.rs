@@ -2,6 +2,7 @@
 //! and that a converted code is read as the Rust would read the one that it comes from.
 
 use super::codes::Setup;
+use super::decode::damage;
 use super::profile::validity;
 use crate::inputs;
 use crate::rules::length;
@@ -456,20 +457,6 @@ fn norm(random: &mut Random) -> Vec<u8> {
         3..=5 => (value(half) as f32).to_le_bytes().to_vec(),
         _ => random.bytes(4),
     }
-}
-
-/// A few bits flipped; now and then cut, or longer.
-fn damage(random: &mut Random, mut bytes: Vec<u8>) -> Vec<u8> {
-    for _ in 0..1 + random.below(3) {
-        let place = random.index(bytes.len());
-        bytes[place] ^= 1 << random.below(8);
-    }
-    if random.one_in(8) {
-        bytes.truncate(random.index(bytes.len()));
-    } else if random.one_in(8) {
-        bytes.push(0);
-    }
-    bytes
 }
 
 /// Vectors that the published encoder stores with norms of four bytes, as they are and with other indices.

@@ -98,7 +98,7 @@ fn random(run: &mut Run, blocks: usize, k: usize, n: usize, damages: usize) -> O
 }
 
 /// A few bits flipped, most often in the norm and the indices; now and then cut, or longer.
-fn damage(random: &mut Random, mut bytes: Vec<u8>) -> Vec<u8> {
+pub fn damage(random: &mut Random, mut bytes: Vec<u8>) -> Vec<u8> {
     for _ in 0..1 + random.below(3) {
         let place = if random.one_in(4) { random.index(bytes.len()) } else { 11 + random.index(bytes.len() - 11) };
         bytes[place] ^= 1 << random.below(8);
