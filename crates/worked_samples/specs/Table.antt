@@ -183,8 +183,8 @@ profile_row = record {
 }
 
 -- document 02, K9: a frame whose norm is 1 in four bytes, and back from two; one whose norm, 1 + 2 ^ -11, binary16 does not
--- hold; and one with a padding bit. The profile has 6 values in blocks of 2 and 5 codewords, so that two of the indices, 5, 3 and
--- 7, are no codeword's: they are carried over.
+-- hold; and one with a padding bit. The profile has 6 values in blocks of 2 and 5 codewords, so that two of the indices, 5,
+-- 3 and 7, are no codeword's: they are carried over.
 abbrev frame_with : List ℕ → List ℕ → List ℕ
 frame_with norm indices = (0x46 ∷ 0x42 ∷ 0x31 ∷ 0x01 ∷ 0x03 ∷ 0x03 ∷ 0x00 ∷ 0x00 ∷ 0x00 ∷ []) ++ norm ++ indices
 

@@ -135,8 +135,8 @@ const TO_BINARY32: Way = Way { from: NORM, to: OLDER_NORM, write: frame_to_f32 }
 /// Writes all codes with norms of the other format; gives their number and the bytes of one. A file whose length does not
 /// fit ends with a code that is cut, and is refused at that if not before.
 fn convert(book: &Book, way: &Way, codes: &Path, out: &Path) -> Done<(u64, u64)> {
-    let size = |norm: u16| Ok(coder(book)?.frame_len() - usize::from(NORM) + usize::from(norm));
-    let sizes = (size(way.from)?, size(way.to)?);
+    let rest = coder(book)?.frame_len() - usize::from(NORM);
+    let sizes = (rest + usize::from(way.from), rest + usize::from(way.to));
     let mut input = Input::open(codes)?;
     let count = input.parts(sizes.0 as u64)?;
     if first_norm(codes)? == Some(way.to) {

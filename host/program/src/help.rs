@@ -88,13 +88,15 @@ const CONVERT: &str = "\
 nuqtelya convert --codebook FILE --codes FILE --to binary16|binary32 --out FILE
 
 Rewrites codes of an older collection, whose norms have four bytes (binary32, the Rust's F32Reference), as codes that
-encode and decode know (--to binary16); or such codes as older ones (--to binary32). Nothing but the norm changes: the
-converted code is read as the old one was with its norm of four bytes, and converting back gives the same file.
+encode and decode know (--to binary16); or such codes as older ones (--to binary32). Nothing but the norm and its length
+changes: the converted code is read as the old one was with its norm of four bytes, and converting back gives the same
+file.
 
 Towards binary16 a norm is never rounded: a code whose norm binary16 does not hold exactly is refused (27). So is one that
-is damaged or has a norm of the other length (8), one whose width or number of blocks is not the codebook's (17), and one
-whose norm is not finite and above zero (10). The place of the first that is refused, counted from 0, is shown, and nothing
-is written. Every norm of binary16 can go back. That an index has a codeword is not tested here: decode does that.
+is damaged (8, 9) or has a norm of the other length (8), one whose width or number of blocks is not the codebook's (17),
+and one whose norm is not finite and above zero (10). The place of the first that is refused, counted from 0, is shown,
+and nothing is written. Every norm of binary16 can go back. That an index has a codeword is not tested here: decode does
+that.
 ";
 
 const INSPECT: &str = "\
