@@ -6,3 +6,4 @@ pub mod SearchedLaw
 pub mod LeastLaw
 pub mod CodesLaw
 pub mod ConvertedLaw
+pub mod OneFrameLaw

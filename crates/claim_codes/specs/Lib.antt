@@ -1,3 +1,4 @@
 pub mod Codes
 pub mod Norms
 pub mod Converted
+pub mod OneFrame

@@ -6,8 +6,8 @@ use mathlib.Core.List.{List, [], ◌∷◌, ◌++◌}
 use Prim.Native.Nat.{ℕ, ◌+◌, ◌*◌, ◌-◌, ◌^◌, ◌≤◌, ◌<◌}
 use native.Mathlib.Omega.{arith}
 use lib.Dec.{ltb, eqb}
-use lib.ListN.{length, get_or, take, drop, length-append, length-drop, take-append-drop}
-use lib.Seq.{drop-cons, drop_at, take-append_seam, length-take-le, take-add, get_or-take, get_or-drop}
+use lib.ListN.{length, get_or, take, drop, length-append, length-drop, take-append-drop, get_or-append}
+use lib.Seq.{drop-cons, drop_at, take-append_seam, length-take-le, take-add, get_or-take, get_or-drop, take-append-le, drop-append-le}
 use borrow.Author.Tests.{ltb-false, eqb-true, not-false, le-ltb, eq-eqb}
 use Rattle.error.specs.Numbers.{Value, completed, refused}
 use Rattle.error.proofs.Outcomes.{both, completed_same, passed, never, after_test}
@@ -165,6 +165,33 @@ pub bytes_norm : (bs : List ℕ) (p : Parts) → Bytes bs → parsed bs ≡ comp
 bytes_norm bs p h e =
     let w = parsed_inverse bs p e in
     subst (λ (q : Parts). Bytes q.norm) (sym w.1) (part_bytes bs 11 (norm_length_in bs) h w.0.norm_within).1
+
+-- and so are the indices'
+pub bytes_indices : (bs : List ℕ) (p : Parts) → Bytes bs → parsed bs ≡ completed p → Bytes p.indices
+bytes_indices bs p h e =
+    let w = parsed_inverse bs p e in
+    let start = 11 + norm_length_in bs in
+    subst (λ (q : Parts). Bytes q.indices) (sym w.1) (λ i l. rw (get_or-drop start bs i 0) (h (start + i) (omega (arith, length-drop start bs))))
+
+-- ---- what follows a header does not change it, and it says where its frame ends
+
+module _ (bs rest : List ℕ) (long : 11 ≤ length bs) where
+  same_part : (at n : ℕ) → at + n ≤ 11 → take n (drop at (bs ++ rest)) ≡ take n (drop at bs)
+  same_part at n l = ap (λ (l : List ℕ). take n l) (drop-append-le at bs rest (omega arith)) ∙ take-append-le n (drop at bs) rest (omega (arith, length-drop at bs))
+
+  pub same_norm_length : norm_length_in (bs ++ rest) ≡ norm_length_in bs
+  same_norm_length = ap number_of (same_part 9 2 (omega arith))
+
+  same_size : count_in (bs ++ rest) * get_or (bs ++ rest) 4 0 ≡ count_in bs * get_or bs 4 0
+  same_size = rw (same_part 5 4 (omega arith), get_or-append bs rest 0 4 (omega arith))
+
+-- so nothing that parses is a proper beginning of anything that does
+pub no_beginning : (bs rest : List ℕ) (b : ℕ) (p q : Parts) → parsed bs ≡ completed p → parsed (bs ++ b ∷ rest) ≡ completed q → ⊥
+no_beginning bs rest b p q e f =
+    let v = (parsed_inverse bs p e).0 in
+    let w = (parsed_inverse (bs ++ b ∷ rest) q f).0 in
+    let s = ap bytes_for (same_size bs (b ∷ rest) v.long) in
+    omega (arith, v.sized, w.sized, v.norm_within, s, same_norm_length bs (b ∷ rest) v.long, length-append bs (b ∷ rest))
 
 -- parsing refuses by no number above 8
 pub parsed_not : (bs : List ℕ) (m : ℕ) (us : List Value) → 8 < m → parsed bs ≡ refused m us → ⊥

@@ -6,7 +6,7 @@ use Rattle.error.specs.Names.{frame_magic_site, frame_version_site, index_length
 use Rattle.error.specs.declared.Refusal.{Refusal}
 use Rattle.error.specs.Numbers.{Outcome, completed, refused, whole, refusal}
 use Rattle.slices.specs.Bytes.{bytes_of, number_of}
-use Rattle.bitpack.specs.Layout.{bytes_for}
+use Rattle.bitpack.specs.Layout.{bytes_for, packed_bytes}
 use Rattle.compact.specs.declared.CompactFrame.{CompactFrame}
 
 -- the first 11 bytes
@@ -16,6 +16,11 @@ header width count normLength = (0x46 ∷ 0x42 ∷ 0x31 ∷ 0x01 ∷ width ∷ [
 -- the whole frame
 unfoldable pub frame_of : ℕ → ℕ → List ℕ → List ℕ → List ℕ
 frame_of width count norm indices = header width count (length norm) ++ norm ++ indices
+
+-- the frame of a code: of the pattern of its norm, in so many bytes, and of its index list
+abbrev pub code_frame : ℕ → ℕ → ℕ → ℕ → List ℕ → List ℕ
+code_frame width count normLength bits indices =
+    frame_of width count (bytes_of normLength bits) (packed_bytes indices width)
 
 -- what a frame holds
 pub record Parts : Type 0 where

@@ -11,9 +11,8 @@ use Rattle.slices.specs.First.{count_where}
 use Rattle.slices.specs.Lists.{tabulate}
 use Rattle.narrow.specs.Pack.{narrow_to}
 use Rattle.root.specs.Sqrt.{sqrt_of}
-use Rattle.bitpack.specs.Layout.{bytes_for, packed_bytes}
-use Rattle.slices.specs.Bytes.{bytes_of}
-use Rattle.compact.specs.Frame.{frame_of}
+use Rattle.bitpack.specs.Layout.{bytes_for}
+use Rattle.compact.specs.Frame.{code_frame}
 use Rattle.profile.specs.declared.FibQuantProfile.{FibQuantProfile}
 use Rattle.profile.specs.Checks.{validity}
 use Rattle.rotation.specs.Apply.{applied}
@@ -91,7 +90,7 @@ frame_for p matrix codewords input bits =
     let d = p.ambient_dim in
     let k = p.block_dim in
     let indices = indices_for (d / k) k p.codebook_size codewords (searched d matrix input (norm_of input)) in
-    frame_of p.wire_index_bits (d / k) (bytes_of 2 bits) (packed_bytes indices p.wire_index_bits)
+    code_frame p.wire_index_bits (d / k) 2 bits indices
 
 -- ---- the tied blocks
 
