@@ -25,7 +25,7 @@ index_list_of frame = indices_of (parts_in frame)
 -- ---- frames that are accepted
 
 -- Under this profile some call of decode passes every check up to 10 with the frame: 8, the profile, 7, 18, 17, 9, 11, 10.
--- Whether 12 comes does not matter. Matrix, codewords, log2 and buffers may be others for another frame.
+-- Whether 12 comes does not matter. Strings, log2, matrix, codewords and lengths may be others for another frame.
 pub record Decodable (p : FibQuantProfile) (frame : List ℕ) : Type 0 where
   pub call : DecodeCall
   pub profile_is : call.profile ≡ p
