@@ -1,7 +1,7 @@
 -- Document 02's K13: to compare the bytes of two accepted frames is to compare their codes (`OneFrame`). Accepted means: up to
--- and including norm and indices, by `decodable`, which decode's contract cites, and by `Accepted` of Converted.antt, which
--- is what the converter's contract cites (`to_f16`, `to_f32`) up to the norm. That encode's frames are accepted is said by
--- `RoundTrip` (Codes.antt), and of converted ones by `Converted`.
+-- and including norm and indices, by `decodable`, which decode's contract cites; and up to and including the norm by
+-- `Accepted` of Converted.antt, which are the steps of `to_f16` and `to_f32`, which the converter's contracts cite. That
+-- encode's frames are accepted is said by `RoundTrip` (Codes.antt), and of converted ones by `Converted`.
 -- proofs/OneFrameLaw.antt proves it, of every list whose elements are bytes where it says so, else of every list.
 -- Definitions only.
 use Rattle.std.specs.Prelude.{◌≡◌, ℕ, ◌/◌, ◌^◌, ◌<◌, List, ◌∷◌, ◌++◌, length, get_or, Float}
@@ -60,7 +60,7 @@ pub record OneForOne (width count n : ℕ) (Accepts : List ℕ → Type 0) : Typ
 
 -- ---- the whole of K13
 pub record OneFrame : Type 0 where
-  -- decode's frames under one profile, which is valid if there is one, since `decodable` tests it
+  -- decode's frames under one profile; it is valid wherever a frame is accepted, since `decodable` tests it
   pub decoded : (p : FibQuantProfile) → OneForOne p.wire_index_bits (p.ambient_dim / p.block_dim) 2 (Decodable p)
   -- K9's older ones
   pub older : (width count : ℕ) → OneForOne width count 4 (Convertible norm_value_f32 width count)

@@ -1,4 +1,4 @@
-// What holds of every code that `encode` writes, said of its bytes:
-// specs/Codes.antt states it, proofs/CodesLaw.antt proves it. And of
-// every norm: specs/Norms.antt and proofs/NormsLaw.antt. No code.
+// What holds of codes, said of their bytes, and of norms: of every code that `encode` writes (specs/Codes.antt), of every norm
+// (Norms.antt), of frames that are converted (Converted.antt), and that a code has one frame (OneFrame.antt). Each has its
+// proof in proofs/. No code.
 #![tactic(auto)]
