@@ -15,8 +15,11 @@ const SHARE: usize = 64;
 const CONVERTED_SHARE: usize = 4096;
 
 /// The bytes of a norm: binary16, and the binary32 of older codes.
-const NORM: u16 = 2;
+pub const NORM: u16 = 2;
 pub const OLDER_NORM: u16 = 4;
+
+/// What a code begins with: magic and version.
+pub const BEGINNING: &[u8] = b"FB1\x01";
 
 pub fn encode_command(words: impl IntoIterator<Item = OsString>) -> Done<()> {
     let args = Args::parse(words, &["codebook", "vectors", "out"], &[], 0)?;
@@ -189,7 +192,7 @@ fn first_norm(codes: &Path) -> Done<Option<u16>> {
         return Ok(None);
     }
     input.bytes(&mut head)?;
-    Ok(head.starts_with(b"FB1\x01").then(|| u16::from_le_bytes([head[9], head[10]])))
+    Ok(head.starts_with(BEGINNING).then(|| u16::from_le_bytes([head[9], head[10]])))
 }
 
 /// The library's own test of codewords and matrix (18), which comes before a vector is encoded.
@@ -201,7 +204,7 @@ fn coder(book: &Book) -> Done<Coder<'_>> {
     Coder::new(book.profile, &book.matrix, &book.codewords).map_err(Failure::refused("the codebook"))
 }
 
-fn at(path: &Path, what: &str, place: u64, refusal: Refusal) -> Failure {
+pub fn at(path: &Path, what: &str, place: u64, refusal: Refusal) -> Failure {
     Failure::Refused(format!("{}: {what} {place}", path.display()), refusal)
 }
 

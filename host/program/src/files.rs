@@ -2,8 +2,8 @@
 
 use crate::failure::{Done, Failure};
 use std::fs::{self, File};
-use std::io::{BufReader, BufWriter, ErrorKind, Read, Write};
-use std::os::unix::fs::MetadataExt;
+use std::io::{self, BufReader, BufWriter, ErrorKind, Read, Write};
+use std::os::unix::fs::{FileExt, MetadataExt};
 use std::path::{Path, PathBuf};
 
 /// Bytes that are held beside the buffer that values are read into.
@@ -70,10 +70,19 @@ impl Input {
     }
 
     pub fn bytes(&mut self, into: &mut [u8]) -> Done<()> {
-        self.file.read_exact(into).map_err(|error| match error.kind() {
+        self.file.read_exact(into).map_err(|error| self.unread(&error))
+    }
+
+    /// Bytes at any place, beside those that are read in order.
+    pub fn bytes_at(&self, place: u64, into: &mut [u8]) -> Done<()> {
+        self.file.get_ref().read_exact_at(into, place).map_err(|error| self.unread(&error))
+    }
+
+    fn unread(&self, error: &io::Error) -> Failure {
+        match error.kind() {
             ErrorKind::UnexpectedEof => Failure::file(&self.path, "ends too early"),
-            _ => Failure::io(&self.path, "read", &error),
-        })
+            _ => Failure::io(&self.path, "read", error),
+        }
     }
 
     pub fn f32s(&mut self, into: &mut [f32]) -> Done<()> {

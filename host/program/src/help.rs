@@ -100,15 +100,30 @@ that.
 ";
 
 const INSPECT: &str = "\
-nuqtelya inspect FILE [--codebook FILE] [--repairs] [--values]
+nuqtelya inspect FILE [--codebook FILE] [--doubles] [--repairs] [--values]
 
 Shows a codebook's shape, how it was trained, its report (also which restart won, or that the start was kept; a file of
-version 1 does not tell restart 0 from the start) and repairs; or, of a file of codes, the head of the first and, with
-its codebook, whether all can be read.
+version 1 does not tell restart 0 from the start) and repairs; or, of a file of codes, how many there are, how many of
+them are doubles, and the head of the first or, with its codebook, whether all can be read.
 
   --codebook FILE  the codebook of a file of codes: whatever is no codebook itself is then read as codes of it
+  --doubles        of codes: a line for each double, with its number and that of the first code that is the same;
+                   whatever is no codebook is then read as codes
   --repairs        all repairs and not only the first ten
   --values         the codewords
+
+A double is a code with the same bytes as an earlier one of the file. Codes that decode accepts with one codebook have
+the same bytes exactly when the bits of their norms and their indices are the same, and so have older codes that convert
+accepts (proved: docs/STATEMENT.md, K13). So bytes are enough to tell. A code does not name its codebook: among the codes
+of several, doubles may stand for different vectors. An older code and what convert makes of it are no doubles.
+
+Without a codebook too the whole file is read, each code as long as its own head says: codes of different shapes and
+older ones may be in it. A code has to be a frame (8) with indices of a width from 1 to 32 and no padding bit set (9);
+the first that is refused is told with its place, counted from 0. A damaged head may still fit, and take in the codes
+after it: with the codebook each code is held to its shape, and norm and indices are tested too.
+
+For doubles it holds, beside a fixed part and the longest code three times, at most 90 bytes for each code that is no
+double, whatever its length, and with --doubles at most 48 for each double. Earlier codes are not held but read again.
 ";
 
 const DEMO: &str = "\

@@ -6,6 +6,7 @@ mod args;
 mod book;
 mod coding;
 mod demo;
+mod doubles;
 mod failure;
 mod files;
 mod help;

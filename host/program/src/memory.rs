@@ -48,10 +48,17 @@ impl Need {
 /// A buffer of zeros, or a failure where the system gives no room.
 pub fn zeros<T: Clone + Default>(count: usize) -> Done<Vec<T>> {
     let mut buffer = Vec::new();
-    let bytes = count as u64 * size_of::<T>() as u64;
-    buffer.try_reserve_exact(count).map_err(|_| Failure::Memory(format!("no memory for {}", size(bytes))))?;
-    buffer.resize(count, T::default());
+    resize(&mut buffer, count)?;
     Ok(buffer)
+}
+
+/// Gives a buffer this length, or fails where the system gives no room.
+pub fn resize<T: Clone + Default>(buffer: &mut Vec<T>, count: usize) -> Done<()> {
+    let bytes = count as u64 * size_of::<T>() as u64;
+    let more = count.saturating_sub(buffer.len());
+    buffer.try_reserve_exact(more).map_err(|_| Failure::Memory(format!("no memory for {}", size(bytes))))?;
+    buffer.resize(count, T::default());
+    Ok(())
 }
 
 /// What Linux says is available; unknown elsewhere.

@@ -1,5 +1,6 @@
 //! The program with the files that users have: whole ones, and all kinds of others.
 
+use std::collections::HashMap;
 use std::ffi::{OsStr, OsString};
 use std::fs;
 use std::os::unix::ffi::OsStrExt;
@@ -428,6 +429,217 @@ fn older(code: &[u8], norm: &[u8; 4]) -> Vec<u8> {
     [&code[..9], &[4, 0], norm, &code[13..]].concat()
 }
 
+/// A code with this norm and these indices of so many bits.
+fn code(norm: &[u8], width: u8, indices: &[u32]) -> Vec<u8> {
+    let mut packed = vec![0; (indices.len() * usize::from(width)).div_ceil(8)];
+    nuqtelya::pack_indices(indices, width, &mut packed).expect("indices of that width");
+    let frame = nuqtelya::Frame { width, count: indices.len() as u32, norm, indices: &packed };
+    let mut code = vec![0; nuqtelya::HEADER_LEN + norm.len() + packed.len()];
+    nuqtelya::write_frame(&frame, &mut code).expect("a code");
+    code
+}
+
+/// The doubles among codes, by a plain count: what is said of them, and their lines.
+fn doubles(codes: &[Vec<u8>]) -> (String, String) {
+    let (mut firsts, mut lines) = (HashMap::new(), Vec::new());
+    for (number, code) in codes.iter().enumerate() {
+        let first = *firsts.entry(code).or_insert(number);
+        if first != number {
+            lines.push(format!("code {number}: the same as code {first}\n"));
+        }
+    }
+    let said = match lines.len() {
+        1 => "1 is a double of an earlier one".into(),
+        count => format!("{count} are doubles of earlier ones"),
+    };
+    (said, lines.concat())
+}
+
+/// Holds what is said of a file of codes, without their codebook, to a plain count; how many are doubles.
+fn counted(folder: &Folder, codes: &[Vec<u8>]) -> usize {
+    folder.write("counted", &codes.concat());
+    let (doubles, list) = doubles(codes);
+    let said = folder.done("inspect counted");
+    let begin =
+        format!("counted: {} codes, of which {doubles}; the first is of version 1, with a norm of ", codes.len());
+    assert!(said.starts_with(&begin) && said.lines().count() == 1, "{said}");
+    assert_eq!(folder.done("inspect counted --doubles"), said + &list);
+    list.lines().count()
+}
+
+/// A folder with a codebook, and 60 codes of it, no two of them equal.
+fn encoded(name: &str) -> (Folder, Vec<Vec<u8>>) {
+    let folder = trained(name);
+    folder.done("encode --codebook book --vectors vectors --out codes");
+    let mut codes: Vec<Vec<u8>> = Vec::new();
+    for code in folder.read("codes").chunks_exact(14) {
+        if codes.len() < 60 && codes.iter().all(|other| other != code) {
+            codes.push(code.to_vec());
+        }
+    }
+    (folder, codes)
+}
+
+#[test]
+fn doubles_are_counted_and_listed() {
+    let (folder, mut codes) = encoded("doubles");
+    assert_eq!(counted(&folder, &codes), 0);
+    codes.insert(7, codes[3].clone());
+    assert_eq!(counted(&folder, &codes), 1);
+    // The last one once more, and the first three times.
+    codes.extend([60, 0, 0].map(|number| codes[number].clone()));
+    codes.insert(0, codes[0].clone());
+    assert_eq!(counted(&folder, &codes), 5);
+    let head =
+        "the first is of version 1, with a norm of 2 bytes and 4 indices of 2 bits (--codebook FILE reads them all)";
+    let list = "code 1: the same as code 0\ncode 8: the same as code 4\ncode 62: the same as code 61\n\
+                code 63: the same as code 0\ncode 64: the same as code 0\n";
+    assert_eq!(
+        folder.done("inspect counted --doubles"),
+        format!("counted: 65 codes, of which 5 are doubles of earlier ones; {head}\n{list}")
+    );
+    // With the codebook, the line of code 0 comes before the list.
+    let said = folder.done("inspect counted --codebook book");
+    let readable =
+        "65 codes, all readable with this codebook; 5 are doubles of earlier ones; 0 of 4 codewords are in no";
+    assert!(said.starts_with(&format!("counted: {readable} code\ncode 0: norm ")), "{said}");
+    assert_eq!(folder.done("inspect counted --codebook book --doubles"), said + list);
+    folder.write("one", &codes[0]);
+    assert_eq!(folder.done("inspect one"), format!("one: 1 code, of which 0 are doubles of earlier ones; {head}\n"));
+    folder.write("two", &codes[..2].concat());
+    let said = "2 codes, all readable with this codebook; 1 is a double of an earlier one; ";
+    assert!(folder.done("inspect two --codebook book").contains(said));
+}
+
+#[test]
+fn codes_that_differ_at_all_are_no_doubles() {
+    let folder = Folder::new("differ");
+    let (norm, indices) = ([0x00, 0x3c, 0x80, 0x3f], [5, 0, 7, 2, 1]);
+    for norm in [&norm[..2], &norm] {
+        let mut codes = vec![code(norm, 3, &indices), code(norm, 4, &indices), code(norm, 3, &indices[..4])];
+        for bit in 0..8 * norm.len() {
+            let mut other = norm.to_vec();
+            other[bit / 8] ^= 1 << (bit % 8);
+            codes.push(code(&other, 3, &indices));
+        }
+        for (place, bit) in (0..indices.len()).flat_map(|place| [1, 2, 4].map(|bit| (place, bit))) {
+            let mut other = indices;
+            other[place] ^= bit;
+            codes.push(code(norm, 3, &other));
+        }
+        assert_eq!(counted(&folder, &codes), 0);
+        codes.extend(codes.clone());
+        assert_eq!(counted(&folder, &codes), codes.len() / 2);
+    }
+}
+
+/// An older code is no double of the one that has its norm in two bytes.
+#[test]
+fn older_codes_are_doubles_of_older_ones() {
+    let (folder, newer) = encoded("doubles-older");
+    let older: Vec<Vec<u8>> = newer.iter().map(|code| older(code, &norm_of(code).to_le_bytes())).collect();
+    assert_eq!(counted(&folder, &[&older[..], &older[40..42]].concat()), 2);
+    let said =
+        "counted: 62 codes, of which 2 are doubles of earlier ones; the first is of version 1, with a norm of 4 bytes \
+                and 4 indices of 2 bits (nuqtelya convert makes codes of them that can be read)\n";
+    assert_eq!(folder.done("inspect counted"), said);
+    // Of heads that are not alike none says who reads all.
+    assert_eq!(counted(&folder, &[&newer[..], &older].concat()), 0);
+    assert!(folder.done("inspect counted").ends_with("4 indices of 2 bits (others have other heads)\n"));
+    folder.write("neither", &code(&[0, 60, 0], 2, &[1, 2, 3, 0]));
+    assert!(folder
+        .done("inspect neither")
+        .ends_with("a norm of 3 bytes and 4 indices of 2 bits (no codebook reads such norms)\n"));
+    assert_eq!(counted(&folder, &[&older[..9], &newer[2..12], &newer[..5], &older[8..]].concat()), 4);
+}
+
+#[test]
+fn many_doubles() {
+    let folder = Folder::new("many");
+    let mut state = 1u32;
+    let mut below = |bound: u32| {
+        state = state.wrapping_mul(1_664_525).wrapping_add(1_013_904_223);
+        (state >> 16) % bound
+    };
+    // Of small shapes there are few codes, and of large ones many.
+    let codes: Vec<Vec<u8>> = (0..20_000)
+        .map(|_| {
+            let norm = [below(40) as u8, 0x3c, 0x80, 0x3f];
+            let (width, count) = (1 + below(3) as u8, 1 + below(4));
+            let indices: Vec<u32> = (0..count).map(|_| below(1 << width)).collect();
+            code(&norm[..2 + 2 * below(2) as usize], width, &indices)
+        })
+        .collect();
+    let count = counted(&folder, &codes);
+    assert!((5000..15_000).contains(&count), "{count}");
+    assert_eq!(counted(&folder, &vec![codes[0].clone(); codes.len()]), 19_999);
+}
+
+/// Of four codes the third is damaged.
+fn with_damaged(folder: &Folder, damaged: &[u8]) {
+    let whole = code(&[0, 60], 2, &[1, 2, 3]);
+    folder.write("other", &[&whole, &whole, damaged, &whole].concat());
+}
+
+#[test]
+fn damaged_codes_are_found_without_a_codebook() {
+    let folder = Folder::new("found");
+    let whole = code(&[0, 60], 2, &[1, 2, 3]);
+    // The place of a byte, and what is there.
+    for (place, byte, said) in [
+        (0, b'f', "8: compact frame: wrong magic"),
+        (3, 2, "8: compact frame: unknown version"),
+        (13, whole[13] | 0x40, "9: packed indices: padding bit set"),
+        (13, whole[13] | 0x80, "9: packed indices: padding bit set"),
+    ] {
+        let mut damaged = whole.clone();
+        damaged[place] = byte;
+        with_damaged(&folder, &damaged);
+        folder.fails("inspect other", 1, &format!("nuqtelya: other: code 2: refused by {said}\n"));
+        folder.fails("inspect other --doubles", 1, "other: code 2: refused by");
+    }
+}
+
+#[test]
+fn damaged_heads_are_found_without_a_codebook() {
+    let folder = Folder::new("heads");
+    let head =
+        |width, count: u32, norm: u16| [&b"FB1\x01"[..], &[width], &count.to_le_bytes(), &norm.to_le_bytes()].concat();
+    // However many indices of no bits there are, they take no bytes.
+    for damaged in [head(0, 0, 0), head(0, 1, 0), head(0, u32::MAX, 0), [head(33, 2, 2), vec![0; 11]].concat()] {
+        with_damaged(&folder, &damaged);
+        folder.fails("inspect other", 1, "other: code 2: refused by 9: packed indices: width not 1 to 32");
+    }
+    // The first two ask for 16 and 128 GB; the bits of the third are 2^32.
+    for (width, count, norm) in
+        [(32, u32::MAX, 2), (255, u32::MAX, u16::MAX), (32, 1 << 27, 2), (2, 200, 2), (2, 3, 256), (2, 3, u16::MAX)]
+    {
+        with_damaged(&folder, &head(width, count, norm));
+        folder.fails("inspect other", 3, "nuqtelya: other: ends within code 2\n");
+        // What begins otherwise is no head, whatever stands there.
+        with_damaged(&folder, &head(width, count, norm).to_ascii_lowercase());
+        folder.fails("inspect other", 1, "nuqtelya: other: code 2: refused by 8: compact frame: wrong magic\n");
+    }
+}
+
+#[test]
+fn a_cut_code_is_found_without_a_codebook() {
+    let folder = Folder::new("cut");
+    let codes = [code(&[0, 60], 2, &[1, 2, 3]), code(&[0, 0, 128, 63], 20, &[9; 5])].concat();
+    // Below 8 bytes nothing is a code yet, and the first has 14.
+    for len in 8..codes.len() {
+        folder.write("other", &codes[..len]);
+        match len {
+            14 => assert!(folder.done("inspect other").contains("other: 1 code, of which 0")),
+            _ => {
+                folder.fails("inspect other", 3, &format!("nuqtelya: other: ends within code {}\n", u8::from(len > 14)))
+            }
+        }
+    }
+    folder.write("other", &codes);
+    assert!(folder.done("inspect other").contains("other: 2 codes, of which 0"));
+}
+
 /// Between (2, 0) and (-2, 0) a block (0, 1) is a toss, and (1, 0) is none.
 #[test]
 fn tosses_are_counted() {
@@ -505,8 +717,13 @@ fn damage_is_found_with_the_codebook() {
     folder.write("other", &folder.read("codes")[..7]);
     folder.fails("inspect other --codebook book", 3, "other: has 7 bytes");
     folder.fails("inspect vectors --codebook book", 3, "vectors: has 3200 bytes");
+    // Who asks for doubles has codes too.
+    folder.fails("inspect vectors --doubles", 1, "vectors: code 0: refused by 8: compact frame: wrong magic");
+    folder.fails("inspect other --doubles", 3, "other: ends within code 0");
     // A codebook is no code, and is shown as what it is.
-    assert!(folder.done("inspect book --codebook book").contains("book: a codebook"));
+    for option in ["--codebook book", "--doubles"] {
+        assert!(folder.done(&format!("inspect book {option}")).contains("book: a codebook"));
+    }
 }
 
 /// A codebook with other bytes at a place, and the check sum that goes with them.
@@ -674,6 +891,22 @@ fn a_full_disk_leaves_the_old_file() {
     assert_eq!(output.status.code(), Some(3), "{stderr}");
     assert!(stderr.contains("codes: cannot be written"), "{stderr}");
     assert_eq!((folder.names(), folder.read("codes")), (before, b"the old ones".to_vec()));
+}
+
+/// Runs the program under a shell that allows it too little memory, which Linux heeds. The places of 600,000 codes take
+/// 26 MB, and 13 more for a moment.
+#[cfg(target_os = "linux")]
+#[test]
+fn too_many_codes_for_the_memory() {
+    let folder = Folder::new("memory");
+    let codes: Vec<Vec<u8>> = (0..600_000).map(|index| code(&[0, 60], 32, &[index])).collect();
+    folder.write("codes", &codes.concat());
+    let line = format!("ulimit -v 40000; exec {PROGRAM} inspect codes");
+    let output = Command::new("sh").args(["-c", &line]).current_dir(&folder.0).output().expect("a run");
+    let stderr = String::from_utf8_lossy(&output.stderr);
+    assert_eq!(output.status.code(), Some(4), "{stderr}");
+    assert!(stderr.contains("no memory to find doubles beyond the first"), "{stderr}");
+    assert!(folder.done("inspect codes").contains("600000 codes, of which 0 are doubles"));
 }
 
 /// A run that is stopped has written nothing under the output's name.
