@@ -2,6 +2,8 @@
 
 use crate::rules::{bounded, edges, length, shorten, values};
 use crate::run::refused;
+use oracle::bitpack::probe::pack_indices;
+use oracle::codec::probe;
 use oracle::inputs::{fitting, Random};
 use oracle::profile::probe::Profile;
 use oracle::Answer;
@@ -39,10 +41,13 @@ impl Setup {
         self.profile.ambient_dim as usize
     }
 
+    pub fn blocks(&self) -> usize {
+        (self.profile.ambient_dim / self.profile.block_dim.max(1)) as usize
+    }
+
     /// The bytes of a frame with a norm of two bytes.
     pub fn frame_len(&self) -> usize {
-        let blocks = self.profile.ambient_dim / self.profile.block_dim.max(1);
-        13 + (blocks as usize * usize::from(self.profile.wire_index_bits)).div_ceil(8)
+        13 + (self.blocks() * usize::from(self.profile.wire_index_bits)).div_ceil(8)
     }
 
     /// 7 for the matrix, then the codewords, of a profile that fits.
@@ -59,6 +64,13 @@ impl Setup {
         }
         bounded(3, &self.matrix, LIMIT)
     }
+}
+
+/// The frame of these indices.
+pub fn frame(setup: &Setup, indices: &[u32], norm: &[u8]) -> Vec<u8> {
+    let width = setup.profile.wire_index_bits;
+    let packed = pack_indices(indices, width).expect("these fit");
+    probe::to_compact_bytes(width, indices.len() as u32, norm, &packed)
 }
 
 /// Blocks, k and N at the ends of what a profile may have; one of them has d = 4,096.

@@ -1,18 +1,16 @@
 //! Frames with the norm in the other format (document 02, K9): the new frame or the refusal, and every byte of the output;
 //! and that a converted code is read as the Rust would read the one that it comes from.
 
-use super::codes::Setup;
-use super::decode::damage;
+use super::codes::{frame, Setup};
+use super::decode::{self, damage};
 use super::profile::validity;
 use crate::inputs;
 use crate::rules::length;
 use crate::run::{lent, refused, with_buffer, Outcome, Run};
 use beside::proved;
 use oracle::binary16::{self, middle, value};
-use oracle::bitpack::probe::pack_indices;
 use oracle::codec::probe::{self, Frame};
 use oracle::inputs::{fitting, Random};
-use oracle::profile::probe::Profile;
 use oracle::Answer;
 use std::ops::Range;
 
@@ -40,7 +38,7 @@ const LIVE_INEXACT: &str = "live codes refused by 27";
 const LIVE_READ: &str = "converted live codes read";
 
 /// A direction: how many bytes a norm has before and after, what is written of one, and the proved function.
-struct Way {
+pub struct Way {
     name: &'static str,
     from: usize,
     to: usize,
@@ -49,14 +47,14 @@ struct Way {
     proved: fn(&nuqtelya::Profile, &[u8], &mut [u8]) -> Result<(), nuqtelya::Refusal>,
 }
 
-const TO_F16: Way =
+pub const TO_F16: Way =
     Way { name: "frame_to_f16", from: 4, to: 2, shows: TO_TWO, norm: two_bytes_of, proved: nuqtelya::frame_to_f16 };
 const TO_F32: Way =
     Way { name: "frame_to_f32", from: 2, to: 4, shows: TO_FOUR, norm: four_bytes_of, proved: nuqtelya::frame_to_f32 };
 
 impl Way {
     /// How long the new frame is, where the old one's norm has the right length.
-    fn len(&self, bytes: &[u8]) -> usize {
+    pub fn len(&self, bytes: &[u8]) -> usize {
         (bytes.len() + self.to).saturating_sub(self.from)
     }
 
@@ -90,7 +88,7 @@ fn four_bytes_of(norm: &[u8]) -> Answer<Vec<u8>> {
 }
 
 /// The new frame: 8, the profile, 17, 9, 10, 27 and, at last, 7. Nothing asks whether an index is below N.
-fn expected(way: &Way, setup: &Setup, bytes: &[u8], output_len: usize) -> Answer<Vec<u8>> {
+pub fn expected(way: &Way, setup: &Setup, bytes: &[u8], output_len: usize) -> Answer<Vec<u8>> {
     // The frame is tested before the profile; this one is good.
     let Frame { width, count, norm, indices } = probe::from_compact_bytes(bytes, &fitting(4, 2, 3))?;
     validity(&setup.profile, setup.log2)?;
@@ -161,13 +159,6 @@ fn setup(blocks: usize, k: usize, n: usize) -> Setup {
 /// d = 4, k = 2 and N = 3, so that an index can be 3 and there are bits of padding.
 fn small_setup() -> Setup {
     setup(2, 2, 3)
-}
-
-/// The frame of these indices.
-fn frame(setup: &Setup, indices: &[u32], norm: &[u8]) -> Vec<u8> {
-    let width = setup.profile.wire_index_bits;
-    let packed = pack_indices(indices, width).expect("these fit");
-    probe::to_compact_bytes(width, indices.len() as u32, norm, &packed)
 }
 
 /// Every norm of two bytes.
@@ -444,13 +435,12 @@ fn long(run: &mut Run) -> Outcome {
 }
 
 /// Indices that the profile's width has room for, below N or not.
-fn any_indices(random: &mut Random, setup: &Setup) -> Vec<u32> {
-    let Profile { ambient_dim, block_dim, wire_index_bits, .. } = setup.profile;
-    (0..ambient_dim / block_dim).map(|_| random.below(1 << wire_index_bits) as u32).collect()
+pub fn any_indices(random: &mut Random, setup: &Setup) -> Vec<u32> {
+    (0..setup.blocks()).map(|_| random.below(1 << setup.profile.wire_index_bits) as u32).collect()
 }
 
 /// A norm of two bytes or of four, seldom one that is refused.
-fn norm(random: &mut Random) -> Vec<u8> {
+pub fn norm(random: &mut Random) -> Vec<u8> {
     let half = random.below(0x7c00) as u16;
     match random.below(7) {
         0..=2 => half.to_le_bytes().to_vec(),
@@ -496,13 +486,11 @@ fn converted(run: &mut Run, setup: &Setup, old: &[u8]) -> Outcome {
 /// The new frame is read as the Rust would read the old one.
 fn read(run: &mut Run, setup: &Setup, old: &[u8], new: &[u8]) -> Outcome {
     let Setup { profile, log2, matrix, codewords } = setup;
-    let given = beside::profile(profile, *log2);
     let expected = with_buffer(probe::decode_f32(old, codewords, matrix, profile), setup.dim());
     if expected.0.is_ok() {
         run.see(LIVE_READ);
     }
-    let (mut output, mut work) = (lent(setup.dim()), lent(2 * setup.dim()));
-    let answer = proved(nuqtelya::decode(&given, matrix, codewords, new, &mut output, &mut work));
+    let (answer, (output, _)) = decode::call(setup, new, setup.dim(), 2 * setup.dim());
     run.same("decode", &expected, &(answer, output), inputs!(profile, log2, matrix, codewords, old, new))
 }
 

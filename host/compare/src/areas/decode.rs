@@ -1,12 +1,11 @@
 //! Decoding of frames, sound and damaged: the values, and every buffer.
 
-use super::codes::{faulty, largest, Setup, FAULTS};
+use super::codes::{faulty, frame, largest, Setup, FAULTS};
 use super::profile::{published, validity};
 use crate::inputs;
 use crate::rules::length;
 use crate::run::{lent, Outcome, Run};
 use beside::proved;
-use oracle::bitpack::probe::pack_indices;
 use oracle::codec::probe;
 use oracle::inputs::{fitting, Random};
 use oracle::Answer;
@@ -72,13 +71,6 @@ fn small(run: &mut Run) -> Outcome {
         }
     }
     Ok(())
-}
-
-/// The frame of these indices.
-fn frame(setup: &Setup, indices: &[u32], norm: &[u8]) -> Vec<u8> {
-    let width = setup.profile.wire_index_bits;
-    let packed = pack_indices(indices, width).expect("these fit");
-    probe::to_compact_bytes(width, indices.len() as u32, norm, &packed)
 }
 
 /// A sound frame, one with any norm, and damaged ones.
@@ -173,14 +165,20 @@ fn case(run: &mut Run, setup: &Setup, bytes: &[u8], output_len: usize, work_len:
         Err(refusal) => (Err(refusal), (lent(output_len), lent(work_len))),
     };
     let Setup { profile, log2, matrix, codewords } = setup;
+    let shown = inputs!(profile, log2, matrix, codewords, bytes, output_len, work_len);
+    run.same("decode", &expected, &call(setup, bytes, output_len, work_len), shown)
+}
+
+/// The proved answer, and the buffers after it.
+pub fn call(setup: &Setup, bytes: &[u8], output_len: usize, work_len: usize) -> (Answer<()>, (Vec<f32>, Vec<f64>)) {
+    let Setup { profile, log2, matrix, codewords } = setup;
     let given = beside::profile(profile, *log2);
     let (mut output, mut work) = (lent(output_len), lent(work_len));
     let answer = proved(nuqtelya::decode(&given, matrix, codewords, bytes, &mut output, &mut work));
-    let shown = inputs!(profile, log2, matrix, codewords, bytes, output_len, work_len);
-    run.same("decode", &expected, &(answer, (output, work)), shown)
+    (answer, (output, work))
 }
 
-fn expected(setup: &Setup, bytes: &[u8], output: usize, work: usize) -> Answer<Vec<f32>> {
+pub fn expected(setup: &Setup, bytes: &[u8], output: usize, work: usize) -> Answer<Vec<f32>> {
     // The frame is tested before the profile; this one is good.
     probe::from_compact_bytes(bytes, &fitting(4, 2, 3))?;
     validity(&setup.profile, setup.log2)?;

@@ -121,7 +121,7 @@ fn encodings(run: &mut Run, setup: &Setup, inputs: usize) -> Outcome {
 }
 
 /// An input of one kind: small whole numbers, near 1, norms at both ends of what can be coded, or any values.
-fn vector(random: &mut Random, d: usize) -> Vec<f32> {
+pub fn vector(random: &mut Random, d: usize) -> Vec<f32> {
     let kind = random.below(12);
     let mut value = || match kind {
         0..=3 => random.below(5) as f32 - 2.0,
@@ -210,11 +210,17 @@ fn case(run: &mut Run, setup: &Setup, input: &[f32], output_len: usize, work_len
         Err(refusal) => (Err(refusal), (lent(output_len), lent(work_len))),
     };
     let Setup { profile, log2, matrix, codewords } = setup;
+    let shown = inputs!(profile, log2, matrix, codewords, input, output_len, work_len);
+    run.same("encode", &expected, &call(setup, input, output_len, work_len), shown)
+}
+
+/// The proved answer, and the buffers after it.
+pub fn call(setup: &Setup, input: &[f32], output_len: usize, work_len: usize) -> (Answer<u32>, (Vec<u8>, Vec<f64>)) {
+    let Setup { profile, log2, matrix, codewords } = setup;
     let given = beside::profile(profile, *log2);
     let (mut output, mut work) = (lent(output_len), lent(work_len));
     let answer = proved(nuqtelya::encode(&given, matrix, codewords, input, &mut output, &mut work));
-    let shown = inputs!(profile, log2, matrix, codewords, input, output_len, work_len);
-    run.same("encode", &expected, &(answer, (output, work)), shown)
+    (answer, (output, work))
 }
 
 fn expected(setup: &Setup, input: &[f32], output: usize, work: usize) -> Answer<Encoded> {

@@ -5,6 +5,7 @@ mod codebook;
 mod codes;
 mod convert;
 mod decode;
+mod doubles;
 mod encode;
 mod frame;
 mod metrics;
@@ -22,7 +23,7 @@ use crate::run::{Outcome, Run};
 
 type Area = fn(&mut Run) -> Outcome;
 
-pub const ALL: [(&str, Area); 15] = [
+pub const ALL: [(&str, Area); 16] = [
     ("narrow", narrow::run),
     ("root", root::run),
     ("bitpack", bitpack::run),
@@ -38,4 +39,5 @@ pub const ALL: [(&str, Area); 15] = [
     ("encode", encode::run),
     ("decode", decode::run),
     ("convert", convert::run),
+    ("doubles", doubles::run),
 ];
