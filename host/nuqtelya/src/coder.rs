@@ -146,6 +146,30 @@ impl<'a> Coder<'a> {
     }
 
     /// The d values that a frame stands for.
+    ///
+    /// Each code has one frame: of those that are read here, two are equal exactly when the bits of their norms and their
+    /// indices are, and none is the beginning of another. So who looks for doubles compares frames.
+    ///
+    /// ```
+    /// use nuqtelya::{Coder, Profile};
+    ///
+    /// // Vectors of 4 values in blocks of 2, which the matrix leaves as they are; the codewords (2, 0) and (-2, 0).
+    /// let profile = Profile::paper_default(4, 2, 2, 7)?;
+    /// let matrix = [1., 0., 0., 0., 0., 1., 0., 0., 0., 0., 1., 0., 0., 0., 0., 1.];
+    /// let mut coder = Coder::new(profile, &matrix, &[2.0, 0.0, -2.0, 0.0])?;
+    /// let frame = coder.encode(&[3.0, 0.0, -4.0, 0.0])?.frame;
+    ///
+    /// // A vector of the same norm and the same nearest codewords is a double; one of another norm is none.
+    /// assert_eq!(coder.encode(&[4.0, 0.0, -3.0, 0.0])?.frame, frame);
+    /// assert_ne!(coder.encode(&[6.0, 0.0, -8.0, 0.0])?.frame, frame);
+    ///
+    /// // The two indices are bits 0 and 1 of the last byte. No other bit of it may be set, and no byte may follow.
+    /// let mut other = frame.clone();
+    /// *other.last_mut().unwrap() |= 4;
+    /// assert_eq!(coder.decode(&other).unwrap_err().number(), 9);
+    /// assert_eq!(coder.decode(&[&frame[..], &[0]].concat()).unwrap_err().number(), 8);
+    /// # Ok::<(), nuqtelya::Refusal>(())
+    /// ```
     pub fn decode(&mut self, bytes: &[u8]) -> Result<Vec<f32>, Refusal> {
         let mut output = vec![0.0; self.profile.ambient_dim as usize];
         decode(&self.profile, self.matrix, self.codewords, bytes, &mut output, &mut self.work)?;
