@@ -141,15 +141,15 @@ lengths_apart frame rest width count n width' count' m s z =
     sym s.sized ∙ length_norm frame v ∙ sym (same_norm_length frame rest v.long) ∙ sym (length_norm (frame ++ rest) w) ∙ z.sized
 
 -- ---- the norm that is read
-norm_of : (n p E : ℕ) (c : ConvertCall) (a : Accepted (value_of n p E) c) → a.norm ≡ unpacked p E (norm_bits_of c.bytes)
+pattern_read : (n p E : ℕ) (c : ConvertCall) (a : Accepted (value_of n p E) c) → a.norm ≡ unpacked p E (norm_bits_of c.bytes)
 unfolding norm_by
-norm_of n p E c a =
+pattern_read n p E c a =
     let is = (parsed_inverse c.bytes a.parts a.parses).1 in
     (as_read n p E a.parts.norm a.norm (also_next (checked c a.parts) _ a.norm_is)).is ∙ ap (λ (q : Parts). unpacked p E (number_of q.norm)) is
 
 norm_read : (c : DecodeCall) (x : Float) → decodable c ≡ completed x → x ≡ unpacked 11 15 (norm_bits_of c.bytes)
 unfolding accepted_of
-norm_read c x e = norm_of 2 11 15 (convert_call c.profile c.schema c.algorithm c.log2 c.bytes) (accepted_of c x e)
+norm_read c x e = pattern_read 2 11 15 (convert_call c.profile c.schema c.algorithm c.log2 c.bytes) (accepted_of c x e)
 
 -- ---- back from what is written of a code
 module _ (width count n bits : ℕ) (indices : List ℕ) (short : n < 2 ^ 16) (few : count < 2 ^ 32) (small : bits < 256 ^ n) (many : length indices ≡ count)
@@ -180,6 +180,6 @@ one_frame = record {
     λ a z. let e : ◌≡◌ {A = ℕ} 4 2 = lengths_apart frame rest width count 4 width' count' 2 (shown 4 24 127 width count frame a) (shown 2 11 15 width' count' (frame ++ rest) z) in omega arith,
   );
   norm_read = norm_read;
-  norm_older = norm_of 4 24 127;
+  norm_older = pattern_read 4 24 127;
   read_back = read_back;
 }

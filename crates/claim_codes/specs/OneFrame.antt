@@ -1,7 +1,7 @@
 -- Document 02's K13: to compare the bytes of two accepted frames is to compare their codes (`OneFrame`). Accepted means: up to
--- and including norm and indices, by `decodable`, which decode's contract cites; and up to and including the norm by
--- `Accepted` of Converted.antt, which are the steps of `to_f16` and `to_f32`, which the converter's contracts cite. That
--- encode's frames are accepted is said by `RoundTrip` (Codes.antt), and of converted ones by `Converted`.
+-- and including norm and indices, by `decodable`, which decode's contract cites; of the converter, up to and including the
+-- norm, by `Accepted` (Converted.antt): the first steps of `to_f16` and `to_f32`, which its contracts cite. That encode's
+-- frames are accepted is said by `RoundTrip` (Codes.antt), and of converted ones by `Converted`.
 -- proofs/OneFrameLaw.antt proves it, of every list whose elements are bytes where it says so, else of every list.
 -- Definitions only.
 use Rattle.std.specs.Prelude.{◌≡◌, ℕ, ◌/◌, ◌^◌, ◌<◌, List, ◌∷◌, ◌++◌, length, get_or, Float}
@@ -33,8 +33,8 @@ pub record Decodable (p : FibQuantProfile) (frame : List ℕ) : Type 0 where
   pub norm : Float
   pub norm_is : decodable call ≡ completed norm
 
--- Under a profile of this width of an index and this number of blocks some call of the converter that reads norms so passes
--- 8, the profile, 17, 9 and 10 with the frame. Whether 27 comes, or 7, does not matter; no index is held to a codebook.
+-- Under a profile of this width of an index and this number of blocks some call of the converter, its norm read by this rule,
+-- passes 8, the profile, 17, 9 and 10 with the frame. Whether 27 comes, or 7, does not matter; no index is held to N.
 pub record Convertible (read : List ℕ → Outcome Float) (width count : ℕ) (frame : List ℕ) : Type 0 where
   pub call : ConvertCall
   pub width_is : call.profile.wire_index_bits ≡ width

@@ -148,7 +148,7 @@ impl<'a> Coder<'a> {
     /// The d values that a frame stands for.
     ///
     /// Each code has one frame: of those that are read here, two are equal exactly when the bits of their norms and their
-    /// indices are, and none is the beginning of another. So who looks for doubles compares frames.
+    /// indices are, and none is a proper beginning of another. So who looks for doubles compares frames.
     ///
     /// ```
     /// use nuqtelya::{Coder, Profile};
