@@ -14,6 +14,7 @@ use lib.Ieee.Scale.{finite}
 use Rattle.error.specs.Numbers.{Outcome, completed, refused, and_then, accepted}
 use Rattle.ieee.specs.Bounds.{Upto, NotNegative}
 use Rattle.ieee.proofs.Bound.{upto_finite, upto_mono}
+use Rattle.ieee.proofs.Apart.{single_upto}
 use Rattle.slices.specs.Limit.{first_outside, first_not_finite}
 use Rattle.lloyd_search.specs.Distance.{row_of}
 use Rattle.lloyd_search.specs.Nearest.{nearest, another, tied_at, Least}
@@ -44,16 +45,6 @@ values_passed matrix codewords e =
     let a = passed_bounded 4 (first_not_finite codewords) _ tt e in
     let b = passed_bounded 3 (first_outside matrix_limit matrix) _ tt a.1 in
     record { codewords_finite = all_finite codewords a.0; matrix_within = all_within 20 matrix b.0 }
-
--- a finite value of binary32 is below 2 ^ 128
-fits_upto : (x : Float) → T (fits binary32 x) → T (finite x) → Upto x (2 ^ 128)
-unfolding fits
-fits_upto nan f t = absurd t
-fits_upto (inf s) f t = absurd t
-fits_upto (fin s zero e) f t = le_trans (le_of_eq (ap (λ (z : ℕ). z * 1) (zero-mul (up e)))) zero-le
-fits_upto (fin s (suc m) e) f t =
-    le_trans (le_of_eq (mul-one (suc m * up e)))
-    (le_of_lt (ltb→lt (suc m * up e) (2 ^ 128 * down e) (and_r (eqb (suc m % 2) 1 && ltb (suc m) (2 ^ 24) && leb (down e) (2 ^ 149)) (ltb (suc m * up e) (2 ^ 128 * down e)) f)))
 
 module _ (c : EncodeCall) (frame : List ℕ) where
   module _ (q : Encoded c frame) where
@@ -88,7 +79,7 @@ module _ (c : EncodeCall) (frame : List ℕ) where
       finite_distances f m h =
           (finite_distance 128 (lit≤ tt) k q.passes.valid.shape.block_most (block_of c i) (row_of k c.codewords m)
           (λ j g. upto_mono (block_of c i j) (2 ^ 74) (2 ^ 128) (block_small j g) (lit≤ tt))
-          (λ j g. fits_upto (row_of k c.codewords m j) (f (m * k + j) (place m j h g)) (valued.codewords_finite (m * k + j) (place m j h g)))).partial_sums k (le_refl k)
+          (λ j g. single_upto (row_of k c.codewords m j) (f (m * k + j) (place m j h g)) (valued.codewords_finite (m * k + j) (place m j h g)))).partial_sums k (le_refl k)
 
       -- the codeword that the search names
       least : Least (distance_to c i) n (nearest k n (row_of k c.codewords) (block_of c i))

@@ -9,7 +9,7 @@ use lib.ListN.{length, get_or}
 use lib.Ieee.{Float}
 use borrow.Author.Tests.{not-false, ltb-true, eqb-true}
 use Rattle.error.specs.Numbers.{Outcome, completed, refused, whole, of_length}
-use Rattle.error.proofs.Outcomes.{never}
+use Rattle.error.proofs.Outcomes.{never, passed_length}
 use Rattle.error.proofs.Refusals.{also_first, also_next}
 use Rattle.slices.proofs.FirstLaw.{none_before}
 use Rattle.bitpack.specs.Layout.{index_at}
@@ -23,13 +23,6 @@ use Rattle.decode.specs.Decode.{DecodeCall, offending, indices_of, indexed, read
 use Rattle.decode.proofs.CheckLaw.{Passes, Sizes, Bounds, Indices}
 
 -- ---- one check that is passed
-pub passed_length : (slice want have : ℕ) (rest : Outcome Unit) → of_length slice want have rest ≡ completed tt → (have ≡ want) × (rest ≡ completed tt)
-passed_length slice want have rest h = go (eqb have want) refl h
-  where
-    go : (t : Bool) → eqb have want ≡ t → cond t rest (refused 7 (whole slice ∷ [])) ≡ completed tt → (have ≡ want) × (rest ≡ completed tt)
-    go true e k = (eqb-true have want e, k)
-    go false e k = absurd (never 7 (whole slice ∷ []) tt k)
-
 none_offends : (n : ℕ) (indices : List ℕ) (f : Option ℕ) → offending n indices f ≡ completed tt → f ≡ None
 none_offends n indices None h = refl
 none_offends n indices (Some i) h = absurd (never 11 (whole (get_or indices i 0) ∷ whole n ∷ []) tt h)
@@ -55,10 +48,10 @@ readable_accepted c parts norm e =
     let e1 = also_next (Passes c parts) _ e in
     let e2 = also_next (Sizes c parts) _ e1 in
     let e3 = also_next (Bounds c parts) _ e2 in
-    let l1 = passed_length 3 (d * d) (length c.matrix) _ (also_first (Sizes c parts) _ e1) in
-    let l2 = passed_length 4 (n * k) (length c.codewords) _ l1.1 in
-    let l3 = passed_length 6 d c.output _ l2.1 in
-    let l4 = passed_length 7 (2 * d) c.work _ l3.1 in
+    let l1 = passed_length 3 (d * d) (length c.matrix) _ tt (also_first (Sizes c parts) _ e1) in
+    let l2 = passed_length 4 (n * k) (length c.codewords) _ tt l1.1 in
+    let l3 = passed_length 6 d c.output _ tt l2.1 in
+    let l4 = passed_length 7 (2 * d) c.work _ tt l3.1 in
     let i0 = also_first (Indices c parts) _ e3 in
     let a = as_expected w (d / k) parts (also_first (expected w (d / k) parts) _ i0) in
     let o = none_offends n (indices_of parts) _ (also_next (expected w (d / k) parts) _ i0) in

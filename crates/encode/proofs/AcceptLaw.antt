@@ -6,6 +6,7 @@ use mathlib.Core.List.{List}
 use lib.ListN.{length}
 use lib.Ieee.{Float}
 use Rattle.error.specs.Numbers.{completed}
+use Rattle.error.proofs.Outcomes.{passed_length}
 use Rattle.error.proofs.Refusals.{also_first, also_next}
 use Rattle.profile.specs.declared.FibQuantProfile.{FibQuantProfile}
 use Rattle.profile.specs.Valid.{Valid}
@@ -16,7 +17,6 @@ use Rattle.slices.specs.Limit.{first_not_finite}
 use Rattle.slices.proofs.FirstLaw.{all_finite}
 use Rattle.decode.specs.declared.FibQuantizer.{FibQuantizer}
 use Rattle.decode.specs.Decode.{values}
-use Rattle.decode.proofs.AcceptLaw.{passed_length}
 use Rattle.encode.specs.Encode.{EncodeCall, encode_call_of, frame_length, fitting}
 use Rattle.encode.specs.Work.{Writable}
 use Rattle.encode.proofs.CheckLaw.{Passes, Sizes}
@@ -39,11 +39,11 @@ fitting_accepted c e =
     let n = c.profile.codebook_size in
     let v = also_first (Passes c) _ e in
     let e1 = also_next (Passes c) _ e in
-    let l1 = passed_length 3 (d * d) (length c.matrix) _ (also_first (Sizes c) _ e1) in
-    let l2 = passed_length 4 (n * k) (length c.codewords) _ l1.1 in
-    let l3 = passed_length 5 d (length c.input) _ l2.1 in
-    let l4 = passed_length 6 (frame_length d k c.profile.wire_index_bits) c.output _ l3.1 in
-    let l5 = passed_length 7 (2 * d) c.work _ l4.1 in
+    let l1 = passed_length 3 (d * d) (length c.matrix) _ tt (also_first (Sizes c) _ e1) in
+    let l2 = passed_length 4 (n * k) (length c.codewords) _ tt l1.1 in
+    let l3 = passed_length 5 d (length c.input) _ tt l2.1 in
+    let l4 = passed_length 6 (frame_length d k c.profile.wire_index_bits) c.output _ tt l3.1 in
+    let l5 = passed_length 7 (2 * d) c.work _ tt l4.1 in
     record {
       validates = v;
       valid = profile-facts.valid c.profile c.schema c.algorithm c.log2 v;

@@ -5,8 +5,10 @@ use mathlib.Core.Logic.{◌⊎◌, inl, inr}
 use Prim.Native.Nat.{ℕ, ◌<◌}
 use native.Mathlib.Omega.{arith}
 use mathlib.Core.Bool.{Bool, true, false, ◌&&◌, cond, true≢false}
-use mathlib.Core.List.{List}
-use Rattle.error.specs.Numbers.{Value, Outcome, completed, refused, and_then, also}
+use mathlib.Core.List.{List, [], ◌∷◌}
+use lib.Dec.{eqb}
+use borrow.Author.Tests.{eqb-true}
+use Rattle.error.specs.Numbers.{Value, Outcome, completed, refused, whole, and_then, also, of_length}
 
 -- both of two tests hold
 pub both : (a b : Bool) → a && b ≡ true → (a ≡ true) × (b ≡ true)
@@ -26,6 +28,14 @@ module _ {A : Type 0} where
       → (t ≡ false) × (rest ≡ completed x)
   passed true n vs rest x e = absurd (never n vs x e)
   passed false n vs rest x e = (refl, e)
+
+  -- and a check of a length
+  pub passed_length : (slice want have : ℕ) (rest : Outcome A) (x : A) → of_length slice want have rest ≡ completed x → (have ≡ want) × (rest ≡ completed x)
+  passed_length slice want have rest x h = go (eqb have want) refl h
+    where
+      go : (t : Bool) → eqb have want ≡ t → cond t rest (refused 7 (whole slice ∷ [])) ≡ completed x → (have ≡ want) × (rest ≡ completed x)
+      go true e k = (eqb-true have want e, k)
+      go false e k = absurd (never 7 (whole slice ∷ []) x k)
 
   -- another refusal than the check's comes after it
   pub refused_later : (t : Bool) (n : ℕ) (vs : List Value) (rest : Outcome A) (m : ℕ) (us : List Value) → (n ≡ m → ⊥)

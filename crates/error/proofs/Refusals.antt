@@ -5,7 +5,7 @@ use Rattle.std.specs.Result.{IsErrAnd}
 use Prim.Native.Nat.{ℕ}
 use mathlib.Core.List.{List}
 use Rattle.error.specs.declared.Refusal.{Refusal}
-use Rattle.error.specs.declared.Refusal.TheVariants.{ZeroDimension, InvalidBlockDim, DimensionNotDivisible, InvalidCodebookSize, ResourceLimitExceeded, ProfileField, ProfileRate, SliceLength, CompactFrame, PackedIndices, Norm, IndexOutOfRange, NonFiniteInput, ZeroNorm, EmptyCells, NoDonor, NoDirection, CodeHeader, OutOfBounds, EventSlotsUsed, Report, InexactNorm}
+use Rattle.error.specs.declared.Refusal.TheVariants.{ZeroDimension, InvalidBlockDim, DimensionNotDivisible, InvalidCodebookSize, ResourceLimitExceeded, ProfileField, ProfileRate, SliceLength, CompactFrame, PackedIndices, Norm, IndexOutOfRange, NonFiniteInput, ZeroNorm, EmptyCells, NoDonor, NoDirection, CodeHeader, OutOfBounds, EventSlotsUsed, Report, InvalidRadius, InexactNorm}
 use Rattle.error.specs.Numbers.{Value, Outcome, completed, refused, refusal, outcome, also}
 
 -- what holds of every refused outcome holds of every refusal, at two types of answers
@@ -31,6 +31,7 @@ by_refusal P h CodeHeader = h _ _
 by_refusal P h (OutOfBounds slice place) = h _ _
 by_refusal P h (EventSlotsUsed slots) = h _ _
 by_refusal P h (Report site) = h _ _
+by_refusal P h InvalidRadius = h _ _
 by_refusal P h InexactNorm = h _ _
 
 -- ---- a check and what comes after it: a refusal stays, a completed check passes on, and a completed chain has completed parts

@@ -2,7 +2,7 @@
 use Rattle.std.specs.Prelude.{ℕ, cond, List, [], ◌∷◌, eqb, Float, Result, Ok, Err}
 use Rattle.error.specs.Names.{slice_number, field_number, frame_site_number, packing_site_number, report_site_number}
 use Rattle.error.specs.declared.Refusal.{Refusal}
-use Rattle.error.specs.declared.Refusal.TheVariants.{ZeroDimension, InvalidBlockDim, DimensionNotDivisible, InvalidCodebookSize, ResourceLimitExceeded, ProfileField, ProfileRate, SliceLength, CompactFrame, PackedIndices, Norm, IndexOutOfRange, NonFiniteInput, ZeroNorm, EmptyCells, NoDonor, NoDirection, CodeHeader, OutOfBounds, EventSlotsUsed, Report, InexactNorm}
+use Rattle.error.specs.declared.Refusal.TheVariants.{ZeroDimension, InvalidBlockDim, DimensionNotDivisible, InvalidCodebookSize, ResourceLimitExceeded, ProfileField, ProfileRate, SliceLength, CompactFrame, PackedIndices, Norm, IndexOutOfRange, NonFiniteInput, ZeroNorm, EmptyCells, NoDonor, NoDirection, CodeHeader, OutOfBounds, EventSlotsUsed, Report, InvalidRadius, InexactNorm}
 
 -- a value that comes back with a number
 pub data Value : Type 0 where
@@ -37,6 +37,7 @@ refusal CodeHeader = refused 17 []
 refusal (OutOfBounds slice place) = refused 18 (whole (slice_number slice) ∷ whole place ∷ [])
 refusal (EventSlotsUsed slots) = refused 19 (whole slots ∷ [])
 refusal (Report site) = refused 20 (whole (report_site_number site) ∷ [])
+refusal InvalidRadius = refused 21 []
 refusal InexactNorm = refused 27 []
 
 -- what an answer of the program comes to

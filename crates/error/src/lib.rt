@@ -1,5 +1,5 @@
 // What every entry point can refuse with: a case for each row of document 01's table of numbers,
-// one more for a rate, and document 02's 27. specs/Numbers.antt sets out the number and the
+// one more for a rate, and document 02's 21 and 27. specs/Numbers.antt sets out the number and the
 // values of each case; every contract above that can refuse speaks through it.
 #![tactic(auto)]
 
@@ -50,6 +50,8 @@ pub enum Refusal {
     },
     EventSlotsUsed(u64),
     Report(ReportSite),
+    // A radius that is below zero or not finite.
+    InvalidRadius,
     // A norm that binary16 does not hold exactly.
     InexactNorm,
 }

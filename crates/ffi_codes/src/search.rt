@@ -1,7 +1,8 @@
-// The search for the nearest codeword, and the mean error of a codebook, for the host.
-ghost use Rattle.std.specs.Prelude.{◌≡◌};
+// The search for the nearest codeword, the codewords around a block, and the mean error of a codebook, for the host.
+ghost use Rattle.std.specs.Prelude.{◌≡◌, length};
 ghost use Rattle.lloyd_alone.specs.Answers.{nearest_alone, mean_error_alone};
-ghost use Rattle.ffi_crossing.specs.Crossing.{found, crossed, one_real};
+ghost use Rattle.around.specs.Around.{query, around, ListAfter};
+ghost use Rattle.ffi_crossing.specs.Crossing.{found, crossed, one_whole, one_real};
 ghost use Rattle.ffi_codes.specs.Search.{found_in};
 
 use ffi_crossing::{put, put_answer, put_refusal};
@@ -34,6 +35,35 @@ pub extern "C" fn fib_nearest(
         }
         Err(refusal) => put_refusal(refusal, whole, real),
     }
+}
+
+// The numbers of the codewords within the radius at the front of `numbers`, which must have a place for each codeword; in
+// whole[0] how many they are.
+#[unsafe(no_mangle)]
+pub extern "C" fn fib_codewords_within(
+    codewords: &[f32],
+    codebook_size: u64,
+    block_dim: u64,
+    block: &[f32],
+    radius: f64,
+    numbers: &mut [u32],
+    whole: &mut [u64; 4],
+    real: &mut [f64; 2],
+) -> u32
+    ensures { let q = query codebook_size block_dim codewords.now block.now in
+        let answer = around q radius (length numbers.old) in
+        (found result whole.new real.new ≡ crossed one_whole answer)
+        × ListAfter q radius answer numbers.old numbers.new }
+{
+    let answer = around::codewords_within(
+        codewords,
+        codebook_size,
+        block_dim,
+        block,
+        radius,
+        numbers,
+    );
+    put_answer(answer, whole, real)
 }
 
 // The error in real[0].

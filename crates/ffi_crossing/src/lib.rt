@@ -88,6 +88,7 @@ impl From<Refusal> for Row {
             Refusal::OutOfBounds { slice, place } => plain(18, slice as u64, place),
             Refusal::EventSlotsUsed(slots) => plain(19, slots, 0),
             Refusal::Report(site) => plain(20, site as u64, 0),
+            Refusal::InvalidRadius => plain(21, 0, 0),
             Refusal::InexactNorm => plain(27, 0, 0),
         }
     }

@@ -19,7 +19,7 @@ use Rattle.ieee.specs.Sum.{sum_to}
 use Rattle.ieee.proofs.Whole.{whole_value, value_at_least}
 
 -- ---- a sign changes nothing else
-abbrev signed : Bool → Float → Float
+abbrev pub signed : Bool → Float → Float
 signed s nan = nan
 signed s (inf t) = inf s
 signed s (fin t m e) = fin s m e

@@ -5,3 +5,4 @@ pub mod Bound
 pub mod Sign
 pub mod Finite
 pub mod Square
+pub mod Apart

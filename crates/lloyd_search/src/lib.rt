@@ -81,14 +81,15 @@ impl Coordinate for f32 {
 
 // Public only for the crates above: the squared distance of two vectors of one length.
 #[tactic(auto, unfolding(ieee::specs::Sum::sum_to))]
-pub fn squared_distance<T: Coordinate>(a: &[f64], b: &[T]) -> f64
+pub fn squared_distance<S: Coordinate, T: Coordinate>(a: &[S], b: &[T]) -> f64
     requires lengths { length a.now ≡ length b.now }
-    requires widens { Widens T.widens T.missing b.now }
-    ensures { result ≡ distance (length a.now) (vector_of a.now) (vector_as T.value T.missing b.now) }
+    requires a_widens { Widens S.widens S.missing a.now }
+    requires b_widens { Widens T.widens T.missing b.now }
+    ensures { result ≡ distance (length a.now) (vector_as S.value S.missing a.now) (vector_as T.value T.missing b.now) }
 {
     let mut sum = 0.0;
     for (j, x) in a.iter().enumerate() {
-        let delta = *x - b[j].widen();
+        let delta = x.widen() - b[j].widen();
         sum = sum + delta * delta;
     }
     sum

@@ -4,4 +4,6 @@ use Rattle.lloyd_search.proofs.squared_distance.Given as goal
 
 abbrev pub invariant-loop-j : goal.invariant-loop-j
 invariant-loop-j g l =
-    let m = g.T.Coordinate in l.sum ≡ distance l.j (vector_of l.a) (vector_as m.value m.missing l.b)
+    let n = g.S.Coordinate in
+    let m = g.T.Coordinate in
+    l.sum ≡ distance l.j (vector_as n.value n.missing l.a) (vector_as m.value m.missing l.b)

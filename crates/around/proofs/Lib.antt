@@ -1,0 +1,4 @@
+mod ListedLaw
+mod SoundLaw
+mod HitLaw
+pub mod ReachLaw
