@@ -14,12 +14,15 @@ const COUNT: usize = 64;
 /// Widths that are whole bytes, and others, below and above a byte.
 const READ_WIDTHS: [u8; 6] = [1, 5, 8, 12, 20, 32];
 const LEN: usize = 1024;
+/// Many, so that the processor doesn't learn by heart which codewords are within.
+const BLOCKS: usize = 16_384;
 
 pub fn rows(bench: &mut Bench) {
     conversions(bench);
     profiles(bench);
     bytes(bench);
     vectors(bench);
+    [(4, 32), (8, 256), (16, 4096)].into_iter().for_each(|(k, n)| around(bench, k, n));
 }
 
 /// A row whose two sides are calls without state.
@@ -179,5 +182,40 @@ fn vectors(bench: &mut Bench) {
         "k 16, N 4096",
         || nuqtelya::check_codewords(&codewords, n, k),
         || codewords.len() == shape.n * shape.k && codewords.iter().all(|value| black_box(value).is_finite()),
+    );
+}
+
+/// The Rust has nothing like it: a plain loop over the codewords stands beside it. Half of them are within, by chance.
+fn around(bench: &mut Bench, k: usize, n: usize) {
+    let (codewords, blocks) = (narrow(&mut bench.random, n * k), narrow(&mut bench.random, BLOCKS * k));
+    let distance = |codeword: &[f32], block: &[f32]| {
+        let delta = |(x, y): (&f32, &f32)| f64::from(*x) - f64::from(*y);
+        block.iter().zip(codeword).map(delta).fold(0.0, |sum, delta| sum + delta * delta)
+    };
+    let mut distances: Vec<f64> = codewords.chunks(k).map(|codeword| distance(codeword, &blocks[..k])).collect();
+    distances.sort_by(f64::total_cmp);
+    let radius = distances[n / 2].sqrt();
+    let (mut ours, mut theirs) = (blocks.chunks(k).cycle(), blocks.chunks(k).cycle());
+    let (mut numbers, mut plain) = (vec![0; n], vec![0; n]);
+    pair(
+        bench,
+        "codewords_within",
+        &format!("k {k}, N {n}"),
+        || {
+            let block = ours.next().expect("a block");
+            nuqtelya::codewords_within(&codewords, n as u64, k as u64, block, radius, &mut numbers)
+        },
+        || {
+            let block = theirs.next().expect("a block");
+            let finite = block.iter().chain(&codewords).all(|value| value.is_finite());
+            let mut count = 0;
+            for (number, codeword) in codewords.chunks(k).enumerate() {
+                if distance(codeword, block) <= radius * radius {
+                    plain[count] = number as u32;
+                    count += 1;
+                }
+            }
+            (finite, count)
+        },
     );
 }

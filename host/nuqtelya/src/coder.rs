@@ -2,7 +2,7 @@
 
 use crate::call::{call, call_checked, fits, profile_export, with_profile};
 use crate::frame::HEADER_LEN;
-use crate::{Profile, Refusal};
+use crate::{apply, f64_to_f32, sqrt, Profile, Refusal};
 
 // The number of tied blocks in whole[0].
 profile_export!(fib_encode(
@@ -143,6 +143,44 @@ impl<'a> Coder<'a> {
         let mut frame = vec![0; self.frame_len];
         let tied_blocks = encode(&self.profile, self.matrix, self.codewords, input, &mut frame, &mut self.work)?;
         Ok(Code { frame, tied_blocks })
+    }
+
+    /// The d / k blocks of d values, one after another, as [`encode`](Coder::encode) searches for them: the values over
+    /// their norm, multiplied by the matrix, and each rounded to binary32. Refuses what `encode` refuses.
+    ///
+    /// Each step is proved. That these steps are what `encode` searches for is not: they are put together here, in Rust,
+    /// and compared with the published encoder's, but for the sign of a zero, which no distance tells.
+    ///
+    /// ```
+    /// use nuqtelya::{codewords_within, Coder, Profile};
+    ///
+    /// // Vectors of 4 values in blocks of 2, which the matrix leaves as they are; the codewords (2, 0) and (-2, 0).
+    /// let profile = Profile::paper_default(4, 2, 2, 7)?;
+    /// let matrix = [1., 0., 0., 0., 0., 1., 0., 0., 0., 0., 1., 0., 0., 0., 0., 1.];
+    /// let codewords = [2.0, 0.0, -2.0, 0.0];
+    /// let mut coder = Coder::new(profile, &matrix, &codewords)?;
+    ///
+    /// // The norm is 5, and 5 times as long a vector has the same blocks.
+    /// let blocks = coder.blocks(&[3.0, 0.0, 0.0, 4.0])?;
+    /// assert_eq!(blocks, [0.6, 0.0, 0.0, 0.8]);
+    /// assert_eq!(coder.blocks(&[15.0, 0.0, 0.0, 20.0])?, blocks);
+    ///
+    /// // (2, 0) is at 1.4 from the first block; both are a little more than 2.15 from the second.
+    /// let mut numbers = [0; 2];
+    /// for (block, count) in blocks.chunks(2).zip([1, 0]) {
+    ///     assert_eq!(codewords_within(&codewords, 2, 2, block, 1.5, &mut numbers)?, count);
+    /// }
+    /// # Ok::<(), nuqtelya::Refusal>(())
+    /// ```
+    pub fn blocks(&mut self, input: &[f32]) -> Result<Vec<f32>, Refusal> {
+        // The checks are its own; the code is not needed.
+        self.encode(input)?;
+        let values: Vec<f64> = input.iter().map(|value| f64::from(*value)).collect();
+        let norm = sqrt(values.iter().fold(0.0, |sum, value| sum + value * value))?;
+        let normalized: Vec<f64> = values.iter().map(|value| value / norm).collect();
+        let mut rotated = vec![0.0; values.len()];
+        apply(self.profile.ambient_dim.into(), self.matrix, &normalized, &mut rotated)?;
+        rotated.into_iter().map(f64_to_f32).collect()
     }
 
     /// The d values that a frame stands for.

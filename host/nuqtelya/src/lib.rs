@@ -3,11 +3,12 @@
 //! A codebook is trained on sample vectors ([`train`]); a vector is then stored as a short frame of codeword numbers
 //! and read back ([`Coder`]). The work is done by functions that are proved (crates `ffi`, `ffi_codes`, `ffi_training` and what they stand on); here
 //! are only their calls. Every call is completed or gives a [`Refusal`] with a number of document 01's table, to which
-//! document 02 adds 27; no input makes one panic.
+//! document 02 adds 21 and 27; no input makes one panic.
 //!
 //! Training and coding lend their buffers ([`refine`], [`update`], [`encode`], [`decode`]); `train` and `Coder` bring
 //! their own. Frames of older collections, whose norm has four bytes, are written anew by [`frame_to_f16`], and back by
-//! [`frame_to_f32`].
+//! [`frame_to_f32`]. Which codewords lie around a block, and not only the nearest, is told by [`codewords_within`];
+//! [`Coder::blocks`] has the blocks of a vector.
 //!
 //! ```
 //! use nuqtelya::{train, Coder, Profile};
@@ -37,6 +38,7 @@
 //! ```
 
 mod arithmetic;
+mod around;
 mod call;
 mod codebook;
 mod coder;
@@ -52,6 +54,7 @@ mod update;
 mod vectors;
 
 pub use arithmetic::{f16_to_f32, f64_to_f16, f64_to_f32, sqrt};
+pub use around::codewords_within;
 pub use codebook::{check_codewords, codeword};
 pub use coder::{decode, encode, Code, Coder};
 pub use convert::{frame_to_f16, frame_to_f32};

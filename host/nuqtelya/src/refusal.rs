@@ -1,8 +1,8 @@
-//! Refusals: document 01's table of numbers, and 27 of document 02, with the values of each row and words for them.
+//! Refusals: document 01's table of numbers, and 21 and 27 of document 02, with the values of each row and words for them.
 
 use std::fmt;
 
-/// Why a call was refused: a number of document 01's table, or document 02's 27, and the values of its row.
+/// Why a call was refused: a number of document 01's table, or document 02's 21 or 27, and the values of its row.
 ///
 /// A refused call leaves the lent buffers as they were, except that 14, 15, 16 and 19 zero work buffers and event slots,
 /// and 12 from decoding zeroes the float work.
@@ -18,7 +18,7 @@ impl Refusal {
     pub(crate) const FOREIGN: Refusal = Refusal { number: u32::MAX, whole: [0; 2], real: [0.0; 2] };
 
     pub(crate) fn new(number: u32, whole: [u64; 4], real: [f64; 2]) -> Refusal {
-        if matches!(number, 1..=20 | 27) {
+        if matches!(number, 1..=21 | 27) {
             Refusal { number, whole: [whole[0], whole[1]], real }
         } else {
             Refusal::FOREIGN
@@ -35,8 +35,8 @@ impl Refusal {
         }
     }
 
-    /// The number in document 01's table, 1 to 20, or 27, which document 02 adds; or `u32::MAX`, if the answer is none of
-    /// these: then the library that was linked is not the one that these functions are written for.
+    /// The number in document 01's table, 1 to 20, or 21 or 27, which document 02 adds; or `u32::MAX`, if the answer is none
+    /// of these: then the library that was linked is not the one that these functions are written for.
     pub fn number(&self) -> u32 {
         self.number
     }
@@ -121,6 +121,7 @@ impl fmt::Display for Refusal {
             18 => write!(f, "18: value {b} of {} is not finite or too large", name(&SLICES, a)),
             19 => write!(f, "19: a repair finds all {a} event slots used"),
             20 => write!(f, "20: report: {}", name(&REPORT_SITES, a)),
+            21 => write!(f, "21: the radius is below zero or not finite"),
             27 => write!(f, "27: the norm is not exact in binary16"),
             _ => write!(f, "an answer that the table of refusals does not have"),
         }

@@ -71,7 +71,9 @@ fn no_input_is_too_odd() {
     let mut coder = Coder::new(profile(), &[], &[]).unwrap();
     assert_eq!(coder.encode(&[]).unwrap_err().values(), [3]);
     assert_eq!(coder.decode(&[]).unwrap_err().number(), 8);
+    assert_eq!(coder.blocks(&[]).unwrap_err().values(), [3]);
     assert!(nearest(&[], u64::MAX, u64::MAX, &[]).is_err());
+    assert!(codewords_within(&[], u64::MAX, u64::MAX, &[], f64::NAN, &mut []).is_err());
     assert!(Profile::paper_default(u64::MAX, 0, 1, 0).is_err());
 }
 

@@ -85,6 +85,8 @@ pub mod probe {
         pub tied: u32,
         /// The norm that the published encoder wrote; none where it refused it.
         pub published_norm: Option<[u8; 2]>,
+        /// The values of all blocks that the published encoder searched for.
+        pub blocks: Vec<f32>,
     }
 
     /// Where the norm stands in a frame.
@@ -104,7 +106,8 @@ pub mod probe {
         };
         frame[NORM].copy_from_slice(&binary16::norm(l2_norm(input))?.to_le_bytes());
         let tied = searches.iter().filter(|search| search.tied).count() as u32;
-        Ok(Encoded { frame, tied, published_norm })
+        let blocks = searches.into_iter().flat_map(|search| search.block).collect();
+        Ok(Encoded { frame, tied, published_norm, blocks })
     }
 
     pub fn decode(bytes: &[u8], codewords: &[f32], matrix: &[f64], profile: &Profile) -> Answer<Vec<f32>> {

@@ -106,10 +106,11 @@ pub mod gpu_backend {
     use crate::lloyd::{nearest_index, probe::tied};
     use std::cell::RefCell;
 
-    /// A codeword found, and whether another was as near.
+    /// A codeword found, whether another was as near, and the block that was searched for.
     pub struct Search {
         pub index: u32,
         pub tied: bool,
+        pub block: Vec<f32>,
     }
 
     thread_local! {
@@ -125,12 +126,12 @@ pub mod gpu_backend {
     }
 
     pub fn nearest_codeword_f32(block: &[f32], codewords: &[f32], k: usize) -> usize {
-        let block: Vec<f64> = block.iter().map(|v| f64::from(*v)).collect();
+        let sought: Vec<f64> = block.iter().map(|v| f64::from(*v)).collect();
         let mut wide = vec![0.0; k];
         let (mut best, mut least) = (0, f64::INFINITY);
         for (index, codeword) in codewords.chunks_exact(k).enumerate() {
             wide.iter_mut().zip(codeword).for_each(|(wide, value)| *wide = f64::from(*value));
-            let (_, distance) = nearest_index(&block, &wide, k);
+            let (_, distance) = nearest_index(&sought, &wide, k);
             if distance < least {
                 (best, least) = (index, distance);
             }
@@ -138,7 +139,8 @@ pub mod gpu_backend {
         SEARCHES.with_borrow_mut(|searches| {
             if let Some(searches) = searches {
                 let wide: Vec<f64> = codewords.iter().map(|v| f64::from(*v)).collect();
-                searches.push(Search { index: best as u32, tied: tied(&block, &wide, k, best) });
+                let tied = tied(&sought, &wide, k, best);
+                searches.push(Search { index: best as u32, tied, block: block.to_vec() });
             }
         });
         best

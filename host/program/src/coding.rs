@@ -200,7 +200,7 @@ pub fn check_values(p: &Profile, matrix: &[f64], codewords: &[f32]) -> Result<()
     Coder::new(*p, matrix, codewords)?.encode(&vec![1.0; p.ambient_dim as usize]).map(|_| ())
 }
 
-fn coder(book: &Book) -> Done<Coder<'_>> {
+pub fn coder(book: &Book) -> Done<Coder<'_>> {
     Coder::new(book.profile, &book.matrix, &book.codewords).map_err(Failure::refused("the codebook"))
 }
 

@@ -2,7 +2,7 @@
 
 use crate::failure::{Done, Failure};
 use std::fs::{self, File};
-use std::io::{self, BufReader, BufWriter, ErrorKind, Read, Write};
+use std::io::{self, BufReader, BufWriter, ErrorKind, Read, Seek, SeekFrom, Write};
 use std::os::unix::fs::{FileExt, MetadataExt};
 use std::path::{Path, PathBuf};
 
@@ -71,6 +71,11 @@ impl Input {
 
     pub fn bytes(&mut self, into: &mut [u8]) -> Done<()> {
         self.file.read_exact(into).map_err(|error| self.unread(&error))
+    }
+
+    /// Goes on reading at this place.
+    pub fn go_to(&mut self, place: u64) -> Done<()> {
+        self.file.seek(SeekFrom::Start(place)).map(drop).map_err(|error| self.unread(&error))
     }
 
     /// Bytes at any place, beside those that are read in order.

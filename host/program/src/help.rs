@@ -7,6 +7,7 @@ pub fn text(command: &str) -> &'static str {
         "decode" => DECODE,
         "convert" => CONVERT,
         "inspect" => INSPECT,
+        "around" => AROUND,
         "demo" => DEMO,
         _ => ALL,
     }
@@ -20,6 +21,7 @@ nuqtelya: a vector quantiser whose training, writing and reading are proved
   nuqtelya decode    makes vectors of codes again
   nuqtelya convert   rewrites codes whose norms have four bytes, and back
   nuqtelya inspect   shows what a file holds
+  nuqtelya around    shows which codewords lie around a block, not only the nearest
   nuqtelya demo      all of it, on data that it makes itself
 
 Each has its own --help. docs/FILES.md has the layout of every file and the rules by which what is not handed in is
@@ -124,6 +126,31 @@ after it: with the codebook each code is held to its shape, and norm and indices
 
 For doubles it holds, beside a fixed part and the longest code three times, at most 90 bytes for each code that is no
 double, whatever its length, and with --doubles at most 48 for each double. Earlier codes are not held but read again.
+";
+
+const AROUND: &str = "\
+nuqtelya around --codebook FILE (--vectors FILE [--vector P] [--block I] | --blocks FILE) --radius R
+
+Shows, for each block, how many of the N codewords lie within the radius, and then a line for each of them with its
+number, its squared distance and its distance. The lines of a block are in no promised order.
+
+  --codebook FILE  the codebook
+  --vectors FILE   binary32 values, vector after vector: the blocks of one vector are shown, as encode searches for them
+  --vector P       which vector, counted from 0 (default 0)
+  --block I        only this block of it, counted from 0
+  --blocks FILE    binary32 values, as many for each block as the codebook's have: blocks that are taken as they are
+  --radius R       how far, a decimal number
+
+Distances are in the units of the search: before it, a vector is divided by its norm and rotated. So they don't grow with
+the vector, and blocks from a file are compared with the codewords directly.
+
+A codeword is within if its squared distance is at most the radius times itself, rounded once: at exactly the radius it is
+within. Radius 0 finds exact hits only: codewords with the values of the block. A radius that is negative or not finite is
+refused (21); minus zero is zero. If any are shown, the codeword that encode stores for the block is among them. A distance
+that is shown is the root, rounded so that as a radius it finds the codeword again.
+
+A vector that cannot be encoded is refused as encode refuses it, and a block with a value that is not finite by 18, each
+with its place, counted from 0. Blocks before that are shown.
 ";
 
 const DEMO: &str = "\

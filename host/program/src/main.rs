@@ -3,6 +3,7 @@
 //! The work is done by the proved library (package `nuqtelya`); here are files, options and words.
 
 mod args;
+mod around;
 mod book;
 mod coding;
 mod demo;
@@ -48,8 +49,11 @@ fn run(words: Vec<OsString>) -> Done<()> {
         "decode" => coding::decode_command(rest),
         "convert" => coding::convert_command(rest),
         "inspect" => inspect::command(rest),
+        "around" => around::command(rest),
         "demo" => demo::command(rest),
-        "" => Err(Failure::Usage("a command is missing: train, encode, decode, convert, inspect or demo".into())),
+        "" => {
+            Err(Failure::Usage("a command is missing: train, encode, decode, convert, inspect, around or demo".into()))
+        }
         _ => Err(Failure::Usage(format!("unknown command {command}"))),
     }
 }

@@ -184,6 +184,11 @@ fn missing_and_misshapen_files() {
         folder.fails(&format!("encode --codebook book --vectors {file} --out codes"), 3, file);
         folder.fails(&format!("encode --codebook {file} --vectors vectors --out codes"), 3, file);
         folder.fails(&format!("decode --codebook book --codes {file} --out decoded"), 3, file);
+        folder.fails(&format!("around --codebook book --vectors {file} --radius 1"), 3, file);
+        folder.fails(&format!("around --codebook {file} --vectors vectors --radius 1"), 3, file);
+    }
+    for file in ["empty", "short", "nowhere", "."] {
+        folder.fails(&format!("around --codebook book --blocks {file} --radius 1"), 3, file);
     }
     folder.fails(&format!("{TRAIN}/nowhere/book --vectors vectors"), 3, "nowhere");
     folder.fails("encode --codebook book --vectors vectors --out .", 3, "not a plain file");
@@ -215,6 +220,8 @@ fn a_pipe_is_not_waited_for() {
         "encode --codebook book --vectors pipe --out codes",
         "decode --codebook book --codes pipe --out decoded",
         "inspect pipe",
+        "around --codebook book --vectors pipe --radius 1",
+        "around --codebook book --blocks pipe --radius 1",
     ] {
         let mut command = Command::new(PROGRAM);
         command.args(words.split_whitespace()).current_dir(&folder.0).stderr(Stdio::piped());
@@ -271,7 +278,7 @@ fn no_output_takes_the_place_of_an_input() {
 fn wrong_use() {
     let folder = trained("use");
     for (words, said) in [
-        ("", "a command is missing"),
+        ("", "a command is missing: train, encode, decode, convert, inspect, around or demo"),
         ("trian", "unknown command trian"),
         ("train --vectors vectors --out x", "--dim is missing"),
         ("train --dim 8 --block 2 --codewords 4 --out x", "one of --vectors and --samples"),
@@ -280,6 +287,25 @@ fn wrong_use() {
         ("convert --codebook book --codes vectors --out x", "--to is missing"),
         ("convert --codebook book --codes vectors --out x --to f16", "--to f16: binary16 or binary32"),
         ("inspect", "the file to inspect is missing"),
+        ("around --vectors vectors --radius 1", "--codebook is missing"),
+        ("around --codebook book --vectors vectors", "--radius is missing"),
+        ("around --codebook book --vectors vectors --radius near", "--radius near: not a number"),
+        ("around --codebook book --radius 1", "one of --vectors and --blocks is needed"),
+        (
+            "around --codebook book --radius 1 --vectors vectors --blocks vectors",
+            "one of --vectors and --blocks is needed",
+        ),
+        ("around --codebook book --radius 1 --blocks vectors --vector 0", "--vector and --block go with --vectors"),
+        ("around --codebook book --radius 1 --blocks vectors --block 0", "--vector and --block go with --vectors"),
+        ("around --codebook book --radius 1 --vectors vectors --vector -1", "--vector -1: not a number that fits"),
+        (
+            "around --codebook book --radius 1 --vectors vectors --vector 100",
+            "--vector 100: the file's last is 99, counted from 0",
+        ),
+        (
+            "around --codebook book --radius 1 --vectors vectors --block 4",
+            "--block 4: a vector's last is 3, counted from 0",
+        ),
     ] {
         folder.fails(words, 2, said);
     }
@@ -290,6 +316,11 @@ fn wrong_use() {
     folder.fails(&format!("{train} --dim 8 --block 2 --codewords -4"), 2, "--codewords -4");
     assert!(folder.done("train --help").contains("--empty-cells"));
     assert!(folder.done("train --help").contains("at least 256 and at most 10000000"));
+    assert!(folder.done("--help").contains("nuqtelya around "));
+    let said = folder.done("around --help");
+    for promise in ["no promised order", "exact hits only", "at exactly the radius it is", "(21); minus zero is zero"] {
+        assert!(said.contains(promise), "{promise}: {said}");
+    }
 }
 
 #[test]
@@ -675,6 +706,136 @@ fn tosses_are_counted() {
     let book = folder.read("book");
     folder.write("twice", &changed(&book, book.len() - 8 - 8 * 16 - 8, &bytes32(&[2.0, 0.0])));
     assert_eq!(encode("twice", &mixed), told(2 * count, count, count));
+}
+
+/// What is said around blocks. The order of a block's codewords is free, so their lines are sorted.
+fn around(folder: &Folder, words: &str) -> String {
+    let said = folder.done(&format!("around --codebook book {words}"));
+    let mut lines: Vec<&str> = said.split_inclusive('\n').collect();
+    lines.chunk_by_mut(|_, next| next.starts_with(' ')).for_each(|block| block[1..].sort());
+    lines.concat()
+}
+
+/// What is said of a block, and of a codeword around it.
+fn heading(block: usize, count: usize, radius: &str) -> String {
+    format!("block {block}: {count} of 2 codewords within {radius}\n")
+}
+
+fn line(codeword: usize, squared: &str, distance: &str) -> String {
+    format!("  codeword {codeword}: squared distance {squared}, distance {distance}\n")
+}
+
+/// The codewords are (2, 0) and (-2, 0).
+#[test]
+fn what_lies_around_blocks() {
+    let folder = given("around-blocks");
+    folder.done(GIVEN);
+    let says = |blocks: &[f32], radius: &str, said: &[String]| {
+        folder.write("blocks", &bytes32(blocks));
+        assert_eq!(around(&folder, &format!("--blocks blocks --radius {radius}")), said.concat());
+    };
+    let root = "2.23606797749979";
+    let first = [heading(0, 2, "3.0"), line(0, "1.0", "1.0"), line(1, "9.0", "3.0")];
+    let second = [heading(1, 2, "3.0"), line(0, "5.0", root), line(1, "5.0", root)];
+    let third = [heading(2, 1, "3.0"), line(0, "0.0", "0.0")];
+    says(&[1.0, 0.0, 0.0, 1.0, 2.0, 0.0], "3", &[&first[..], &second, &third].concat());
+    // At exactly the radius, and beyond it.
+    says(&[1.0, 0.0], "1", &[heading(0, 1, "1.0"), line(0, "1.0", "1.0")]);
+    says(&[1.0, 0.0], "0.9999999999999999", &[heading(0, 0, "0.9999999999999999")]);
+    // The square of the root of 13 is smaller, as both are rounded, and that of the next number is not: that one is shown.
+    let [root, next] = ["3.605551275463989", "3.6055512754639896"];
+    says(&[0.0, 3.0], root, &[heading(0, 0, root)]);
+    says(&[0.0, 3.0], next, &[heading(0, 2, next), line(0, "13.0", next), line(1, "13.0", next)]);
+    // Exact hits, of the other zero too.
+    for (radius, shown) in [("0", "0.0"), ("-0", "-0.0"), ("1e-300", "1e-300")] {
+        let said = [heading(0, 1, shown), line(0, "0.0", "0.0"), heading(1, 0, shown)];
+        says(&[2.0, -0.0, 2f32.next_up(), 0.0], radius, &said);
+    }
+}
+
+/// The blocks of a vector are those of its direction. The rotation leaves it as it is.
+#[test]
+fn what_lies_around_a_vector() {
+    let folder = given("around-vector");
+    folder.done(GIVEN);
+    folder.write("vectors", &bytes32(&[3.0, 0.0, 0.0, 0.0, 0.0, 0.0, -1e-6, 0.0, 0.0, 0.0, 0.0, 0.0]));
+    let says = |which: &str, said: &[String]| {
+        assert_eq!(around(&folder, &format!("--vectors vectors {which} --radius 1.5")), said.concat());
+    };
+    let first = [heading(0, 1, "1.5"), line(0, "1.0", "1.0"), heading(1, 0, "1.5")];
+    says("", &first);
+    says("--vector 0", &first);
+    let second = [heading(0, 0, "1.5"), heading(1, 1, "1.5"), line(1, "1.0", "1.0")];
+    says("--vector 1", &second);
+    says("--vector 1 --block 0", &second[..1]);
+    says("--vector 1 --block 1", &second[1..]);
+    let zeros = "around --codebook book --vectors vectors --vector 2 --radius 1.5";
+    folder.fails(zeros, 1, "vectors: vector 2: refused by 13");
+}
+
+#[test]
+fn what_cannot_be_looked_around() {
+    let folder = trained("around-refused");
+    for radius in ["nan", "inf", "-inf", "-1", "1e999", "-4e-324"] {
+        for source in ["--vectors vectors", "--vectors vectors --vector 99 --block 3", "--blocks vectors"] {
+            let said = "refused by 21: the radius is below zero or not finite";
+            folder.fails(&format!("around --codebook book {source} --radius {radius}"), 1, said);
+        }
+    }
+    let mut odd = values(16);
+    odd[11] = f32::NEG_INFINITY;
+    folder.write("odd", &bytes32(&odd));
+    let vector = "around --codebook book --vectors odd --vector 1 --radius nan";
+    folder.fails(vector, 1, "odd: vector 1: refused by 12: value 3");
+    // Values are tested before the radius, and blocks in their order.
+    folder.fails("around --codebook book --blocks odd --radius 1", 1, "odd: block 5: refused by 18: value 1 of input");
+    folder.fails("around --codebook book --blocks odd --radius -1", 1, "--radius -1.0: refused by 21");
+    folder.write("odd", &bytes32(&odd[10..]));
+    folder.fails("around --codebook book --blocks odd --radius -1", 1, "odd: block 0: refused by 18: value 1 of input");
+}
+
+/// The codeword that a block is stored under lies within, wherever any does.
+#[test]
+fn the_chosen_codeword_lies_within() {
+    let folder = trained("around-chosen");
+    folder.done("encode --codebook book --vectors vectors --out codes");
+    let (mut some, mut none) = (0, 0);
+    for (vector, code) in folder.read("codes").chunks_exact(14).enumerate() {
+        let frame = nuqtelya::parse_frame(code).expect("a code");
+        let mut indices = [0; 4];
+        nuqtelya::unpack_indices(frame.indices, 4, 2, &mut indices).expect("indices");
+        let said = around(&folder, &format!("--vectors vectors --vector {vector} --radius 0.25"));
+        let mut lines = said.lines().peekable();
+        for (block, index) in indices.iter().enumerate() {
+            let head = lines.next().expect("a block");
+            let mut within = Vec::new();
+            while let Some(line) = lines.next_if(|line| line.starts_with("  codeword ")) {
+                within.push(line);
+            }
+            assert_eq!(head, format!("block {block}: {} of 4 codewords within 0.25", within.len()));
+            assert!(within.is_empty() || within.iter().any(|line| line.starts_with(&format!("  codeword {index}: "))));
+            *(if within.is_empty() { &mut none } else { &mut some }) += 1;
+        }
+        assert_eq!(lines.next(), None);
+    }
+    assert!(some > 50 && none > 50, "{some} {none}");
+}
+
+/// More lines than are in memory at a time.
+#[test]
+fn many_codewords_lie_within() {
+    let folder = Folder::new("around-many");
+    folder.write("samples", &bytes64(values(3000).into_iter().map(f64::from)));
+    let train = "train --dim 4 --block 2 --codewords 1500 --restarts 1 --iterations 1 --out book";
+    folder.done(&format!("{train} --samples samples"));
+    folder.write("block", &bytes32(&[0.5, 0.5]));
+    let said = folder.done("around --codebook book --blocks block --radius 1e200");
+    let (head, lines) = said.split_once('\n').expect("a line");
+    assert_eq!(head, "block 0: 1500 of 1500 codewords within 1e200");
+    let number = |line: &str| line.strip_prefix("  codeword ")?.split_once(':')?.0.parse::<usize>().ok();
+    let mut numbers: Vec<usize> = lines.lines().map(|line| number(line).expect("a number")).collect();
+    numbers.sort();
+    assert_eq!(numbers, (0..1500).collect::<Vec<_>>());
 }
 
 #[test]

@@ -194,7 +194,7 @@ fn right(run: &mut Run, setup: &Setup, input: &[f32]) -> Outcome {
 fn case(run: &mut Run, setup: &Setup, input: &[f32], output_len: usize, work_len: usize) -> Outcome {
     // Completed, the output holds the frame and the work zeros; refused, both hold what they held.
     let expected = match expected(setup, input, output_len, work_len) {
-        Ok(Encoded { frame, tied, published_norm }) => {
+        Ok(Encoded { frame, tied, published_norm, .. }) => {
             match published_norm {
                 Some(norm) if norm != frame[probe::NORM] => run.see(ANOTHER_BIT),
                 Some(_) => {}
@@ -223,7 +223,7 @@ pub fn call(setup: &Setup, input: &[f32], output_len: usize, work_len: usize) ->
     (answer, (output, work))
 }
 
-fn expected(setup: &Setup, input: &[f32], output: usize, work: usize) -> Answer<Encoded> {
+pub fn expected(setup: &Setup, input: &[f32], output: usize, work: usize) -> Answer<Encoded> {
     validity(&setup.profile, setup.log2)?;
     setup.lengths()?;
     length(5, input.len() == setup.dim())?;

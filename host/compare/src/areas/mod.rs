@@ -1,5 +1,6 @@
 //! The areas, in the order in which they run.
 
+mod around;
 mod bitpack;
 mod codebook;
 mod codes;
@@ -23,7 +24,7 @@ use crate::run::{Outcome, Run};
 
 type Area = fn(&mut Run) -> Outcome;
 
-pub const ALL: [(&str, Area); 16] = [
+pub const ALL: [(&str, Area); 17] = [
     ("narrow", narrow::run),
     ("root", root::run),
     ("bitpack", bitpack::run),
@@ -40,4 +41,5 @@ pub const ALL: [(&str, Area); 16] = [
     ("decode", decode::run),
     ("convert", convert::run),
     ("doubles", doubles::run),
+    ("around", around::run),
 ];
