@@ -1,4 +1,3 @@
 mod ListedLaw
 mod SoundLaw
-mod HitLaw
 pub mod ReachLaw

@@ -1,35 +1,33 @@
 -- What a radius reaches: `reach`; and when it is refused: `radius_refused`. Assumes nothing.
-use mathlib.Core.Path.{◌≡◌, refl, sym, subst, ◌∙◌}
+use mathlib.Core.Path.{◌≡◌, refl, sym, ap, subst, ◌∙◌}
 use mathlib.Core.Logic.{◌⊎◌, inl, inr}
-use Prim.Native.Nat.{ℕ, zero, suc, ◌+◌, ◌*◌, ◌<◌}
+use Prim.Native.Nat.{ℕ, zero, suc, ◌+◌, ◌*◌, ◌^◌, ◌<◌}
 use native.Mathlib.Nat.{le_refl, le_step, lt-suc_self, mul-pos, zero-mul, mul-one}
 use native.Mathlib.Omega.{arith}
 use mathlib.Core.Bool.{Bool, true, false, true≢false, not, ◌&&◌, ◌||◌, beq, cond}
-use mathlib.Core.List.{List, [], ◌∷◌}
+use mathlib.Core.List.{[]}
 use lib.Dec.{T, lit≤, lit<, T_not, eqb, eqb→eq}
+use lib.Pow.{pow_pos}
 use lib.ListN.{length}
-use lib.Ieee.{Float, nan, inf, fin, binary64, up, down, unlike, round, mul, lt, le, eq}
+use lib.Ieee.{Float, nan, inf, fin, binary64, up, down, unlike, round, add, sum, mul, lt, le, eq}
 use lib.Ieee.Bits.{is_true}
 use lib.Ieee.Fits.{and_l, and_i, down_pos}
 use lib.Ieee.Scale.{finite, round_same}
-use Rattle.error.specs.Numbers.{Value, Outcome, completed, refused, whole, also, of_length}
-use Rattle.error.proofs.Outcomes.{never, after_test}
-use Rattle.ieee.specs.Sum.{plus_zero}
+use Rattle.error.specs.Numbers.{Outcome, completed, refused, also}
+use Rattle.error.proofs.Outcomes.{never}
+use Rattle.ieee.specs.Sum.{plus_zero, sum_to, squared_difference}
 use Rattle.ieee.proofs.Order.{finite_number, finite_lt_inf, lt_le, le_not_lt, le_or_lt, le_le}
-use Rattle.ieee.proofs.Apart.{single_upto, unequal_square, equal_square}
-use Rattle.slices.specs.First.{count_where}
-use Rattle.slices.specs.Limit.{bounded, first_not_finite}
-use Rattle.std.specs.Prelude.{Option, None, Some}
+use Rattle.ieee.proofs.Apart.{single_upto, difference_at_least, square_of_least, above_zero, equal_square}
+use Rattle.slices.proofs.CountLaw.{count_all, counted_somewhere}
 use Rattle.lloyd_search.specs.Distance.{vector_of, row_of}
 use Rattle.lloyd_search.specs.Finite.{FiniteDistance}
 use Rattle.lloyd_search.specs.Nearest.{nearest, Least}
-use Rattle.lloyd_search.specs.Shape.{codebook_shaped}
-use Rattle.lloyd_search.proofs.FiniteLaw.{Bounded, finite_distance, nearest_least}
 use Rattle.lloyd_search.proofs.Parts.{row_place}
+use Rattle.lloyd_search.proofs.FiniteLaw.{Bounded, finite_distance, nearest_least}
+use Rattle.lloyd_search.proofs.SizeLaw.{distance_not_negative, distance_at_least}
 use Rattle.around.specs.Around.{Query, distance_to, square_of, within_radius, count_within, sound, radius_fits, around}
 use Rattle.around.specs.Reach.{Sound, Equal, ExactHits, chosen, Reach, Radius}
-use Rattle.around.proofs.SoundLaw.{Passed, sound_means}
-use Rattle.around.proofs.HitLaw.{distance_above, larger_distance, zero_distance}
+use Rattle.around.proofs.SoundLaw.{Passed, sound_means, sound_not}
 
 -- ---- the square of zero
 nothing : round binary64 false 0 1 ≡ plus_zero
@@ -53,25 +51,17 @@ square_of_zero (fin s m e) h =
     let C = mul-pos (down_pos e) (down_pos e) in
     rw (none, alike s) (round_same binary64 false (0 * 0) (down e * down e) 0 1 C (lt-suc_self 0) (sym (zero-mul (down e * down e))) ∙ nothing)
 
--- ---- counting
-count_all : (t : ℕ → Bool) (n : ℕ) → ((i : ℕ) → i < n → T (t i)) → count_where t n ≡ n
-unfolding count_where
-count_all t zero h = refl
-count_all t (suc n) h = rw (count_all t n (λ i l. h i (le_step l)), is_true (t n) (h n (lt-suc_self n))) (omega arith)
+-- ---- a sum of zeros
+zeros_added : add binary64 plus_zero plus_zero ≡ plus_zero
+unfolding add sum round
+zeros_added = refl
 
-abbrev Somewhere : (ℕ → Bool) → ℕ → Type 0
-Somewhere t n = (m : ℕ) × (m < n) × T (t m)
+zero_sum : (t : ℕ → Float) (n : ℕ) → ((i : ℕ) → i < n → t i ≡ plus_zero) → sum_to t n ≡ plus_zero
+unfolding sum_to
+zero_sum t zero h = refl
+zero_sum t (suc n) h = ap (λ (a : Float). add binary64 a (t n)) (zero_sum t n (λ i l. h i (le_step l))) ∙ ap (λ (a : Float). add binary64 plus_zero a) (h n (lt-suc_self n)) ∙ zeros_added
 
-counted_next : (t : ℕ → Bool) (n : ℕ) (b : Bool) → t n ≡ b → (0 < count_where t n → Somewhere t n) → 0 < count_where t n + cond b 1 0 → Somewhere t (suc n)
-counted_next t n true e f h = (n, lt-suc_self n, subst T (sym e) tt)
-counted_next t n false e f h = let (m, l, k) = f (omega (arith, h)) in (m, le_step l, k)
-
-counted : (t : ℕ → Bool) (n : ℕ) → 0 < count_where t n → Somewhere t n
-unfolding count_where
-counted t zero h = absurd (omega arith)
-counted t (suc n) h = counted_next t n (t n) refl (counted t n) h
-
-module _ (q : Query) (places : ℕ) (h : Sound q places) where
+module _ (q : Query) (h : Sound q) where
   abbrev k : ℕ
   k = q.dim
 
@@ -81,8 +71,8 @@ module _ (q : Query) (places : ℕ) (h : Sound q places) where
   abbrev book : ℕ → ℕ → Float
   book = row_of q.dim q.codewords
 
-  passed : Passed q places
-  passed = sound_means q places h.passes
+  passed : Passed q
+  passed = (sound_means q true h.passes).0
 
   -- ---- the values
   block_place : (j : ℕ) → j < k → j < length q.block
@@ -113,9 +103,10 @@ module _ (q : Query) (places : ℕ) (h : Sound q places) where
   module _ (m : ℕ) (l : m < q.size) where
     differ : (j : ℕ) → j < k → T (le (distance_to q m) plus_zero) → (T (eq (x j) (book m j)) → ⊥) → ⊥
     differ j i c o =
-        T_not (lt plus_zero (distance_to q m)) (le_not_lt (distance_to q m) plus_zero c)
-        (larger_distance k x (book m) (finite_to m l) j i
-        (unequal_square (x j) (book m j) (h.block_of_singles j (block_place j i)) (h.codewords_of_singles (m * k + j) (place m j l i)) (block_real j i) (row_real m l j i) ((finite_to m l).differences j i) ((finite_to m l).squares j i) o))
+        let f = finite_to m l in
+        let apart = difference_at_least (x j) (book m j) (h.block_of_singles j (block_place j i)) (h.codewords_of_singles (m * k + j) (place m j l i)) (block_real j i) (row_real m l j i) o (f.differences j i) in
+        above_zero (distance_to q m) (1 * 1) (2 ^ 298 * 2 ^ 298) (lt-suc_self 0) (distance_not_negative k x (book m) f)
+        (distance_at_least k x (book m) f j 1 (2 ^ 298) i (pow_pos 298) square_of_least apart) c
 
     hit : T (le (distance_to q m) plus_zero) → Equal q m
     hit c j i = go (eq (x j) (book m j)) refl
@@ -125,7 +116,7 @@ module _ (q : Query) (places : ℕ) (h : Sound q places) where
         go false e = absurd (differ j i c (λ t. subst T e t))
 
     same : Equal q m → distance_to q m ≡ plus_zero
-    same e = zero_distance k x (book m) (λ j i. equal_square (x j) (book m j) (block_real j i) (row_real m l j i) (e j i))
+    same e = zero_sum (λ j. squared_difference (x j) (book m j)) k (λ j i. equal_square (x j) (book m j) (block_real j i) (row_real m l j i) (e j i))
 
   module _ (radius : Float) where
     exact : square_of radius ≡ plus_zero → ExactHits q radius
@@ -152,38 +143,14 @@ module _ (q : Query) (places : ℕ) (h : Sound q places) where
 
     pub reach : Reach q radius
     reach = record {
-      distances = λ m l. (real m l, distance_above k x (book m) (finite_to m l));
+      distances = λ m l. (real m l, distance_not_negative k x (book m) (finite_to m l));
       zero = λ t. exact (square_of_zero radius t);
       small = exact;
       large = λ e. (near_all e, count_all (within_radius q radius) q.size (near_all e));
-      chosen_within = λ t. let (m, l, c) = counted (within_radius q radius) q.size t in nearest_within m l c;
+      chosen_within = λ t. let (m, l, c) = counted_somewhere (within_radius q radius) q.size t in nearest_within m l c;
     }
 
 -- ---- when it is refused
-not_21 : (n m : ℕ) (us vs : List Value) → n < m → ◌≡◌ {A = Outcome Unit} (refused n us) (refused m vs) → ⊥
-not_21 n m us vs l e = let z : n ≡ m = cc in omega (arith, l, z)
-
-length_first : (slice want have : ℕ) (rest : Outcome Unit) → of_length slice want have rest ≡ refused 21 [] → rest ≡ refused 21 []
-length_first slice want have rest e = go (eqb have want) e
-  where
-    go : (t : Bool) → cond t rest (refused 7 (whole slice ∷ [])) ≡ refused 21 [] → rest ≡ refused 21 []
-    go true e = e
-    go false e = absurd (not_21 7 21 (whole slice ∷ []) [] (lit< tt) e)
-
-bounded_first : (slice : ℕ) (place : Option ℕ) (rest : Outcome Unit) → bounded slice place rest ≡ refused 21 [] → rest ≡ refused 21 []
-bounded_first slice None rest e = e
-bounded_first slice (Some p) rest e = absurd (not_21 18 21 (whole slice ∷ whole p ∷ []) [] (lit< tt) e)
-
-never_21 : (q : Query) (places : ℕ) → sound q places ≡ refused 21 [] → ⊥
-unfolding sound
-never_21 q places e =
-    let a = after_test 21 [] (not (codebook_shaped q.size q.dim (length q.codewords))) 7 (whole 4 ∷ []) _ (lit< tt) e in
-    let b = length_first 5 q.dim (length q.block) _ a in
-    let c = length_first 6 q.size places _ b in
-    let d = bounded_first 5 (first_not_finite q.block) _ c in
-    let f = bounded_first 4 (first_not_finite q.codewords) _ d in
-    never 21 [] tt (sym f)
-
 -- a radius is refused exactly where it is below zero or not finite
 refused_radius : (r : Float) → radius_fits r ≡ false → T (lt r plus_zero) ⊎ T (not (finite r))
 refused_radius nan e = inr tt
@@ -211,7 +178,10 @@ not_accepted r o = go (le plus_zero r) (finite r) o
     go false b o = refl
 
 module _ (q : Query) (radius : Float) (places : ℕ) where
-  decided : (b : Bool) → radius_fits radius ≡ b → sound q places ≡ completed tt → around q radius places ≡ cond b (completed (count_within q radius)) (refused 21 [])
+  abbrev checked : Outcome Unit
+  checked = sound q (eqb places q.size)
+
+  decided : (b : Bool) → radius_fits radius ≡ b → checked ≡ completed tt → around q radius places ≡ cond b (completed (count_within q radius)) (refused 21 [])
   decided b e s = rw (s, e) refl
 
   came_from : (b : Bool) → radius_fits radius ≡ b → cond b (completed (count_within q radius)) (refused 21 []) ≡ refused 21 [] → radius_fits radius ≡ false
@@ -227,6 +197,6 @@ module _ (q : Query) (radius : Float) (places : ℕ) where
   radius_refused = record {
     below_zero = λ s h. decided false (not_accepted radius (λ l f. T_not (lt radius plus_zero) (le_not_lt plus_zero radius l) h)) s;
     not_finite = λ s h. decided false (not_accepted radius (λ l f. T_not (finite radius) h f)) s;
-    only = λ e. let a = only_then (sound q places) (never_21 q places) e in (a.0, refused_radius radius a.1);
+    only = λ e. let a = only_then checked (sound_not q (eqb places q.size) 21 [] (lit< tt)) e in (a.0, refused_radius radius a.1);
     others = λ s f h. decided true (accepted_radius radius f h) s;
   }

@@ -1,6 +1,6 @@
 -- The codewords that lie within a distance of a block: the checks in their order, how many there are, and what the lent
 -- list holds afterwards. Definitions only.
-use Rattle.std.specs.Prelude.{◌≡◌, ℕ, ◌≤◌, ◌<◌, Bool, not, ◌&&◌, cond, List, [], ◌∷◌, T, length, get_or, Float}
+use Rattle.std.specs.Prelude.{◌≡◌, ℕ, ◌≤◌, ◌<◌, Bool, not, ◌&&◌, cond, List, [], ◌∷◌, T, eqb, length, get_or, Float}
 use Rattle.std.specs.Float.{binary64}
 use Rattle.std.specs.Float.Ieee.{le, mul}
 use Rattle.std.specs.Float.Ieee.Scale.{finite}
@@ -26,25 +26,29 @@ query n k codewords block = record { size = n; dim = k; codewords = codewords; b
 abbrev pub distance_to : Query → ℕ → Float
 distance_to q m = distance q.dim (vector_of q.block) (row_of q.dim q.codewords m)
 
+-- whether it is at most so much
+abbrev pub within_square : Query → Float → ℕ → Bool
+within_square q square m = le (distance_to q m) square
+
 -- the radius times itself, rounded once: it may become 0, or the infinity
 abbrev pub square_of : Float → Float
 square_of radius = mul binary64 radius radius
 
 -- whether codeword m lies within the radius
 abbrev pub within_radius : Query → Float → ℕ → Bool
-within_radius q radius m = le (distance_to q m) (square_of radius)
+within_radius q radius = within_square q (square_of radius)
 
 -- how many do
 abbrev pub count_within : Query → Float → ℕ
 count_within q radius = count_where (within_radius q radius) q.size
 
--- ---- the answer, where the lent list has so many places
--- 7 of the codewords, the block and the list; 18 of the block and the codewords
-unfoldable pub sound : Query → ℕ → Outcome Unit
-sound q places =
+-- ---- the answer
+-- 7 of the codewords, the block, and the list, whose length fits or not; 18 of the block and the codewords
+unfoldable pub sound : Query → Bool → Outcome Unit
+sound q list_fits =
     cond (not (codebook_shaped q.size q.dim (length q.codewords))) (refused 7 (whole codewords_slice ∷ []))
     (of_length input_slice q.dim (length q.block)
-    (of_length output_slice q.size places
+    (cond (not list_fits) (refused 7 (whole output_slice ∷ []))
     (bounded input_slice (first_not_finite q.block)
     (bounded codewords_slice (first_not_finite q.codewords)
     (completed tt)))))
@@ -53,9 +57,9 @@ sound q places =
 abbrev pub radius_fits : Float → Bool
 radius_fits radius = le plus_zero radius && finite radius
 
--- then 21, of the radius; else the number of codewords within
+-- for a list of so many places: these, then 21 of the radius; else the number of codewords within
 abbrev pub around : Query → Float → ℕ → Outcome ℕ
-around q radius places = also (sound q places) (cond (radius_fits radius) (completed (count_within q radius)) (refused 21 []))
+around q radius places = also (sound q (eqb places q.size)) (cond (radius_fits radius) (completed (count_within q radius)) (refused 21 []))
 
 -- ---- the list
 -- The first `count` places of a list take the numbers below n that pass a test, each once; the rest is as it was. In which
@@ -74,8 +78,3 @@ pub record Listed (test : ℕ → Bool) (n count : ℕ) (old new : List ℕ) : T
 abbrev pub ListAfter : Query → Float → Outcome ℕ → List ℕ → List ℕ → Type 0
 ListAfter q radius (completed count) old new = Listed (within_radius q radius) q.size count old new
 ListAfter q radius (refused number values) old new = new ≡ old
-
--- ---- the loop over the codewords
--- the same test of codeword m, of k coordinates, for x and the square
-abbrev pub within_square : ℕ → (ℕ → ℕ → Float) → (ℕ → Float) → Float → ℕ → Bool
-within_square k book x square m = le (distance k x (book m)) square

@@ -1,6 +1,6 @@
--- What a radius reaches, and when it is refused: `Reach` and `Radius`, which proofs/ReachLaw.antt proves of every query
--- that passes 7 and 18, of values of binary32, as those of every f32 slice are. Definitions only.
-use Rattle.std.specs.Prelude.{◌≡◌, ℕ, ◌<◌, List, [], false, not, T, ◌⊎◌, length, get_or, Float}
+-- What a radius reaches: `Reach`, which proofs/ReachLaw.antt proves of every query of finite binary32 values that has its
+-- lengths (`Sound`); every value of an f32 slice is one of binary32. And when a radius is refused: `Radius`. Definitions only.
+use Rattle.std.specs.Prelude.{◌≡◌, ℕ, ◌<◌, List, [], true, false, not, T, eqb, ◌⊎◌, length, get_or, Float}
 use Rattle.std.specs.Float.{nan, inf, binary32}
 use Rattle.std.specs.Float.Ieee.{lt, eq, fits}
 use Rattle.std.specs.Float.Ieee.Scale.{finite}
@@ -15,10 +15,11 @@ use Rattle.around.specs.Around.{Query, distance_to, square_of, within_radius, co
 abbrev pub Singles : List Float → Type 0
 Singles xs = (i : ℕ) → i < length xs → T (fits binary32 (get_or xs i nan))
 
-pub record Sound (q : Query) (places : ℕ) : Type 0 where
+pub record Sound (q : Query) : Type 0 where
   pub block_of_singles : Singles q.block
   pub codewords_of_singles : Singles q.codewords
-  pub passes : sound q places ≡ completed tt
+  -- past 7 and 18, the list aside
+  pub passes : sound q true ≡ completed tt
 
 -- ---- what a radius reaches
 -- the block equals codeword m in every coordinate, as IEEE 754 compares: plus and minus zero are equal
@@ -47,8 +48,8 @@ pub record Reach (q : Query) (radius : Float) : Type 0 where
 -- ---- when it is refused
 -- 21 comes exactly where 7 and 18 don't and the radius is below zero, as minus zero is not, or not finite
 pub record Radius (q : Query) (radius : Float) (places : ℕ) : Type 0 where
-  pub below_zero : sound q places ≡ completed tt → T (lt radius plus_zero) → around q radius places ≡ refused 21 []
-  pub not_finite : sound q places ≡ completed tt → T (not (finite radius)) → around q radius places ≡ refused 21 []
-  pub only : around q radius places ≡ refused 21 [] → (sound q places ≡ completed tt) × (T (lt radius plus_zero) ⊎ T (not (finite radius)))
+  pub below_zero : sound q (eqb places q.size) ≡ completed tt → T (lt radius plus_zero) → around q radius places ≡ refused 21 []
+  pub not_finite : sound q (eqb places q.size) ≡ completed tt → T (not (finite radius)) → around q radius places ≡ refused 21 []
+  pub only : around q radius places ≡ refused 21 [] → (sound q (eqb places q.size) ≡ completed tt) × (T (lt radius plus_zero) ⊎ T (not (finite radius)))
   -- any other is accepted, whatever its square becomes
-  pub others : sound q places ≡ completed tt → T (finite radius) → T (not (lt radius plus_zero)) → around q radius places ≡ completed (count_within q radius)
+  pub others : sound q (eqb places q.size) ≡ completed tt → T (finite radius) → T (not (lt radius plus_zero)) → around q radius places ≡ completed (count_within q radius)

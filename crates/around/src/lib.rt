@@ -7,22 +7,22 @@ ghost use Rattle.std.specs.Float.Ieee.Scale.{finite};
 ghost use Rattle.std.specs.Float.{nan};
 ghost use Rattle.error.specs.Numbers.{outcome};
 ghost use Rattle.slices.specs.First.{count_where};
-ghost use Rattle.lloyd_search.specs.Distance.{vector_of, row_of, Widens};
+ghost use Rattle.lloyd_search.specs.Distance.{Widens};
 ghost use Rattle.around.specs.Around.{query, sound, radius_fits, around, Listed, ListAfter, within_square};
 
 use error::{Refusal, Slice};
 use lloyd_search::Codewords;
 
-// The checks of lengths and values, for a list of so many places.
+// The checks of lengths and values; whether the list's length fits is told.
 #[tactic(auto, unfolding(crate::specs::Around::sound))]
 fn check_sound(
     codewords: &[f32],
     codebook_size: u64,
     block_dim: u64,
     block: &[f32],
-    places: usize,
+    list_fits: bool,
 ) -> Result<(), Refusal>
-    ensures { outcome result ≡ sound (query codebook_size block_dim codewords.now block.now) places }
+    ensures { outcome result ≡ sound (query codebook_size block_dim codewords.now block.now) list_fits }
 {
     if !lloyd_search::codebook_shaped(codebook_size, block_dim, codewords.len()) {
         return Err(Refusal::SliceLength(Slice::Codewords));
@@ -30,7 +30,7 @@ fn check_sound(
     if block.len() as u64 != block_dim {
         return Err(Refusal::SliceLength(Slice::Input));
     }
-    if places as u64 != codebook_size {
+    if !list_fits {
         return Err(Refusal::SliceLength(Slice::Output));
     }
     slices::check_finite(block, Slice::Input)?;
@@ -50,9 +50,8 @@ fn radius_fits(radius: f64) -> bool
 fn gather(codewords: Codewords<f32>, block: &[f32], square: f64, numbers: &mut [u32]) -> usize
     requires { (length block.now ≡ codewords.dim) × Widens finite nan block.now
         × (length numbers.old ≡ codewords.count) × (codewords.count < 2 ^ 32) }
-    ensures { let k = codewords.entry.dim in
-        let n = codewords.entry.count in
-        let near = within_square k (row_of k codewords.entry.values.now) (vector_of block.now) square in
+    ensures { let n = codewords.entry.count in
+        let near = within_square (query n codewords.entry.dim codewords.entry.values.now block.now) square in
         (result ≡ count_where near n) × Listed near n result numbers.old numbers.new }
 {
     let k = block.len();
@@ -81,7 +80,8 @@ pub fn codewords_within(
         let answer = around q radius (length numbers.old) in
         (outcome result ≡ answer) × ListAfter q radius answer numbers.old numbers.new }
 {
-    check_sound(codewords, codebook_size, block_dim, block, numbers.len())?;
+    let list_fits = numbers.len() as u64 == codebook_size;
+    check_sound(codewords, codebook_size, block_dim, block, list_fits)?;
     if !radius_fits(radius) {
         return Err(Refusal::InvalidRadius);
     }

@@ -16,7 +16,7 @@ use Rattle.ieee.proofs.Value.{holds_true}
 use Rattle.ieee.proofs.Sign.{square_not_negative}
 use Rattle.root.specs.Sqrt.{sqrt_of}
 use Rattle.root.proofs.Bounds.{sqrt_not_negative, sqrt_at_least_power}
-use Rattle.lloyd_search.proofs.FiniteLaw.{sum_to_fits}
+use Rattle.ieee.proofs.Least.{sum_to_fits}
 use Rattle.norm.proofs.NormLaw.{Written}
 use Rattle.encode.specs.Encode.{square_at, norm_of}
 use Rattle.claim_codes.proofs.PastLaw.{Past, past_square, past_sum}

@@ -15,7 +15,8 @@ use Rattle.ieee.specs.Bounds.{AtMost, AtLeast, NotNegative, HoldsFraction}
 use Rattle.ieee.proofs.Bound.{fraction_value, at_most_mono, mul_below, div_below}
 use Rattle.lloyd_search.specs.Finite.{FiniteDistance}
 use Rattle.lloyd_cells.specs.Repair.{epsilon, least_norm, residual_norm, shift}
-use Rattle.claim_finite.proofs.NormLaw.{at_most_or_least, norm_at_least}
+use Rattle.ieee.proofs.Least.{at_most_or_least}
+use Rattle.claim_finite.proofs.NormLaw.{norm_at_least}
 
 -- ---- 2 ^ p / 2 ^ q is a value of binary64
 power : (p q : ℕ) → p ≤ 1000 → q ≤ 1000 → HoldsFraction binary64 (2 ^ p) (2 ^ q)

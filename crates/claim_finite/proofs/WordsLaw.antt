@@ -26,7 +26,7 @@ use Rattle.lloyd_cells.specs.Repair.{Cells, Terms, Repaired, donor_to, least_nor
 use Rattle.lloyd_cells.proofs.DonorLaw.{donor_plenty}
 use Rattle.lloyd_cells.proofs.TallyLaw.{split_by, turn_completed, tallied, tallied_upto}
 use Rattle.claim_finite.specs.Finite.{FiniteResidual, FiniteSplit, FiniteRepair, FiniteRepairs, WordsUpto}
-use Rattle.claim_finite.proofs.NormLaw.{squares_not_negative}
+use Rattle.lloyd_search.proofs.SizeLaw.{distance_not_negative}
 use Rattle.claim_finite.proofs.ShiftLaw.{above_least, direction_upto, shift_upto}
 
 -- ---- one donor: its farthest sample and its codeword are at most 2 ^ 49
@@ -38,7 +38,7 @@ module _ (k : ℕ) (far word : ℕ → Float) (few : k ≤ 256) (f : Bounded 49 
   fine = finite_distance 49 (lit≤ tt) k few far word f w
 
   norm_finite : T (finite norm)
-  norm_finite = upto_finite norm (2 ^ 512) (sqrt_finite (distance k far word) (holds_true (distance_fits k far word)) (fine.partial_sums k (le_refl k)) (squares_not_negative k far word fine))
+  norm_finite = upto_finite norm (2 ^ 512) (sqrt_finite (distance k far word) (holds_true (distance_fits k far word)) (fine.partial_sums k (le_refl k)) (distance_not_negative k far word fine))
 
   finite_residual : FiniteResidual k far word
   finite_residual = record { squared = fine; root = norm_finite }
@@ -47,7 +47,7 @@ module _ (k : ℕ) (far word : ℕ → Float) (few : k ≤ 256) (f : Bounded 49 
   module _ (above : T (not (le norm least_norm))) (j : ℕ) (l : j < k) where
     quotient_upto : AtMost (div binary64 (sub binary64 (far j) (word j)) norm) 2 1
     quotient_upto =
-        direction_upto k far word fine (above_least norm norm_finite (sqrt_not_negative binary64 (distance k far word) (squares_not_negative k far word fine)) above) j l 50 (lit≤ tt)
+        direction_upto k far word fine (above_least norm norm_finite (sqrt_not_negative binary64 (distance k far word) (distance_not_negative k far word fine)) above) j l 50 (lit≤ tt)
         (difference_upto 49 (lit≤ tt) (far j) (word j) (f j l) (w j l))
 
     move_upto : AtMost (shift (far j) (word j) norm) 1 64

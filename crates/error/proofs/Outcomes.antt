@@ -60,6 +60,13 @@ module _ {A : Type 0} (m : ℕ) (us : List Value) where
   pub after_test : (t : Bool) (n : ℕ) (vs : List Value) (rest : Outcome A) → n < m → cond t (refused n vs) rest ≡ refused m us → rest ≡ refused m us
   after_test t n vs rest h e = refused_later t n vs rest m us (λ z. omega arith) e
 
+  pub after_length : (slice want have : ℕ) (rest : Outcome A) → 7 < m → of_length slice want have rest ≡ refused m us → rest ≡ refused m us
+  after_length slice want have rest l e = go (eqb have want) e
+    where
+      go : (t : Bool) → cond t rest (refused 7 (whole slice ∷ [])) ≡ refused m us → rest ≡ refused m us
+      go true e = e
+      go false e = let z : 7 ≡ m = cc in absurd (omega (arith, z, l))
+
   pub after_check : (o : Outcome Unit) (q : Outcome A) → (o ≡ refused m us → ⊥) → also o q ≡ refused m us → q ≡ refused m us
   after_check (completed tt) q h e = e
   after_check (refused n vs) q h e = absurd (let p : n ≡ m = cc in let w : vs ≡ us = cc in h (rw (p, w)))

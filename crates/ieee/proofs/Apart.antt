@@ -1,24 +1,22 @@
 -- Two finite values of binary32 that are not equal are so far apart that the square of their difference does not vanish
 -- in binary64; of two that are equal it is +0. And how large such a value is. Assumes nothing.
 use mathlib.Core.Path.{◌≡◌, refl, sym, ap, subst, ◌∙◌}
+use mathlib.Core.Logic.{inl, inr}
 use Prim.Native.Nat.{ℕ, zero, suc, ◌+◌, ◌-◌, ◌*◌, ◌^◌, ◌<◌, ◌≤◌, ◌%◌, zero-le}
 use native.Mathlib.Nat.{le_trans, le_of_eq, le_of_lt, mul-one, one-mul, zero-mul, le_refl, mul-pos, mul-le-mul, mul-le-mul_right, eq-or-lt_of_le}
-use mathlib.Core.Logic.{inl, inr}
-use borrow.Author.Tests.{eq-eqb, ltb-true, ltb-false, le-ltb}
 use native.Mathlib.Omega.{arith}
-use mathlib.Core.Bool.{Bool, true, false, not, ◌&&◌, ◌||◌, beq, cond}
-use lib.Dec.{T, lit≤, ltb, leb, eqb, ltb→lt, leb→le, eqb→eq}
+use mathlib.Core.Bool.{Bool, true, false, true≢false, not, ◌&&◌, ◌||◌, beq, cond}
+use lib.Dec.{T, lit≤, lit<, ltb, leb, eqb, ltb→lt, leb→le, eqb→eq}
 use lib.Pow.{pow_pos}
 use lib.IntN.{ℤ, pos, negsuc}
-use lib.Ieee.{Float, nan, inf, fin, Format, binary32, binary64, up, down, round, sum, add, sub, mul, neg, lt, le, eq, level, fits}
+use lib.Ieee.{Float, nan, inf, fin, binary32, binary64, up, down, round, sum, add, sub, mul, neg, lt, le, eq, level, fits}
 use lib.Ieee.Fits.{and_l, and_r, down_pos}
-use lib.Ieee.Order.{round_mono}
-use lib.Ieee.Positive.{positive, above, positive-finite, above_of_le, mul_mono}
 use lib.Ieee.Scale.{finite, round_same}
-use Rattle.ieee.specs.Bounds.{Upto}
+use borrow.Author.Tests.{eq-eqb, ltb-true, ltb-false, le-ltb}
+use Rattle.ieee.specs.Bounds.{Upto, AtLeast, NotNegative, HoldsFraction}
 use Rattle.ieee.specs.Sum.{plus_zero, squared_difference}
-use Rattle.ieee.proofs.Bound.{signed, round_signed}
-use Rattle.ieee.proofs.Order.{cut_lt, le_not_lt}
+use Rattle.ieee.proofs.Bound.{or_le, signed, round_signed}
+use Rattle.ieee.proofs.Least.{round_at_least}
 
 -- ---- a finite value of binary32
 pub single_upto : (x : Float) → T (fits binary32 x) → T (finite x) → Upto x (2 ^ 128)
@@ -40,15 +38,20 @@ parts_upto s (suc m) e f =
     (and_r (eqb (suc m % 2) 1 && ltb (suc m) (2 ^ 24)) (leb (down e) (2 ^ 149))
     (and_l (eqb (suc m % 2) 1 && ltb (suc m) (2 ^ 24) && leb (down e) (2 ^ 149)) (ltb (suc m * up e) (2 ^ 128 * down e)) f))
 
--- ---- their difference, before it is rounded, is at least 2 ^ -298 in size
-record Apart (d : Float) : Type 0 where
-  sign : Bool
-  above : ℕ
-  below : ℕ
-  is : d ≡ round binary64 sign above below
-  some : 1 ≤ above
-  parts : 0 < below
-  few : below ≤ 2 ^ 298
+-- ---- the difference of two that are not equal
+-- a fraction of at least 2 ^ -298, rounded, with a sign
+signed_at_least : (s : Bool) (x : Float) (a c : ℕ) → T (finite (signed s x)) → (T (finite x) → AtLeast x a c) → AtLeast (signed s x) a c
+signed_at_least s nan a c f h = f
+signed_at_least s (inf t) a c f h = f
+signed_at_least s (fin t m e) a c f h = h tt
+
+rounded_at_least : (s : Bool) (n c : ℕ) → 0 < c → c ≤ 2 ^ 298 → 1 ≤ n → T (finite (round binary64 s n c)) → AtLeast (round binary64 s n c) 1 (2 ^ 298)
+rounded_at_least s n c C few some f =
+    let is = round_signed binary64 s n c in
+    let far : 1 * c ≤ n * 2 ^ 298 = le_trans (le_of_eq (one-mul c)) (le_trans few (le_trans (le_of_eq (sym (one-mul (2 ^ 298)))) (mul-le-mul_right (2 ^ 298) some))) in
+    subst (λ (x : Float). AtLeast x 1 (2 ^ 298)) (sym is)
+    (signed_at_least s (round binary64 false n c) 1 (2 ^ 298) (subst (λ (x : Float). T (finite x)) is f)
+    (round_at_least binary64 n c 1 (2 ^ 298) C (pow_pos 298) (record { q = 1; j = 776; small = lit< tt; under = lit< tt; is = refl }) far))
 
 -- a / c and b / c with their signs, where they are not level
 same_level : (s : Bool) (a b : ℕ) → a ≡ b → T (level s a s b)
@@ -66,78 +69,48 @@ some_in_all zero zero h = absurd (h (refl, refl))
 some_in_all zero (suc b) h = omega arith
 some_in_all (suc a) b h = omega arith
 
-summed : (s t : Bool) (a b c : ℕ) → 0 < c → c ≤ 2 ^ 298 → (T (level s a t b) → ⊥) → Apart (sum binary64 s a (not t) b c)
+summed : (s t : Bool) (a b c : ℕ) → 0 < c → c ≤ 2 ^ 298 → (T (level s a t b) → ⊥) → T (finite (sum binary64 s a (not t) b c)) → AtLeast (sum binary64 s a (not t) b c) 1 (2 ^ 298)
 unfolding sum
-summed s t a b c C few h = go s t (ltb a b) refl h
+summed s t a b c C few h f = go s t (ltb a b) refl h f
   where
-    made : (s : Bool) (n : ℕ) → 1 ≤ n → Apart (round binary64 s n c)
-    made s n l = record { sign = s; above = n; below = c; is = refl; some = l; parts = C; few = few }
+    Far : Float → Type 0
+    Far d = T (finite d) → AtLeast d 1 (2 ^ 298)
 
-    go : (s t x : Bool) → ltb a b ≡ x → (T (level s a t b) → ⊥) → Apart (cond (beq s (not t)) (round binary64 s (a + b) c) (cond x (round binary64 (not t) (b - a) c) (round binary64 (s && ltb b a) (a - b) c)))
-    go true true true e h = made false (b - a) (let l = ltb-true a b e in omega arith)
-    go false false true e h = made true (b - a) (let l = ltb-true a b e in omega arith)
-    go true true false e h = made (true && ltb b a) (a - b) (some_left a b (λ i. h (same_level true a b i)) e)
-    go false false false e h = made (false && ltb b a) (a - b) (some_left a b (λ i. h (same_level false a b i)) e)
-    go true false x e h = made true (a + b) (some_in_all a b (λ i. h (rw (i.0, i.1) tt)))
-    go false true x e h = made false (a + b) (some_in_all a b (λ i. h (rw (i.0, i.1) tt)))
+    go : (s t x : Bool) → ltb a b ≡ x → (T (level s a t b) → ⊥) → Far (cond (beq s (not t)) (round binary64 s (a + b) c) (cond x (round binary64 (not t) (b - a) c) (round binary64 (s && ltb b a) (a - b) c)))
+    go true true true e h = rounded_at_least false (b - a) c C few (let l = ltb-true a b e in omega arith)
+    go false false true e h = rounded_at_least true (b - a) c C few (let l = ltb-true a b e in omega arith)
+    go true true false e h = rounded_at_least (true && ltb b a) (a - b) c C few (some_left a b (λ i. h (same_level true a b i)) e)
+    go false false false e h = rounded_at_least (false && ltb b a) (a - b) c C few (some_left a b (λ i. h (same_level false a b i)) e)
+    go true false x e h = rounded_at_least true (a + b) c C few (some_in_all a b (λ i. h (rw (i.0, i.1) tt)))
+    go false true x e h = rounded_at_least false (a + b) c C few (some_in_all a b (λ i. h (rw (i.0, i.1) tt)))
 
-difference_apart : (x y : Float) → T (fits binary32 x) → T (fits binary32 y) → T (finite x) → T (finite y) → (T (eq x y) → ⊥) → Apart (sub binary64 x y)
+pub difference_at_least : (x y : Float) → T (fits binary32 x) → T (fits binary32 y) → T (finite x) → T (finite y) → (T (eq x y) → ⊥) → T (finite (sub binary64 x y)) → AtLeast (sub binary64 x y) 1 (2 ^ 298)
 unfolding sub add neg eq
-difference_apart nan y f g p q h = absurd p
-difference_apart (inf s) y f g p q h = absurd p
-difference_apart (fin s m e) nan f g p q h = absurd q
-difference_apart (fin s m e) (inf t) f g p q h = absurd q
-difference_apart (fin s m e) (fin t n d) f g p q h =
+difference_at_least nan y f g p q h = absurd p
+difference_at_least (inf s) y f g p q h = absurd p
+difference_at_least (fin s m e) nan f g p q h = absurd q
+difference_at_least (fin s m e) (inf t) f g p q h = absurd q
+difference_at_least (fin s m e) (fin t n d) f g p q h =
     summed s t (m * up e * down d) (n * up d * down e) (down e * down d) (mul-pos (down_pos e) (down_pos d)) (le_trans (mul-le-mul (parts_upto s m e f) (parts_upto t n d g)) (lit≤ tt)) h
 
--- ---- its square
-signed_square : (f : Format) (s : Bool) (x : Float) → T (finite x) → mul f (signed s x) (signed s x) ≡ mul f x x
-unfolding mul
-signed_square f s nan h = absurd h
-signed_square f s (inf t) h = absurd h
-signed_square f true (fin true m e) h = refl
-signed_square f true (fin false m e) h = refl
-signed_square f false (fin true m e) h = refl
-signed_square f false (fin false m e) h = refl
+-- binary64 has the square of 2 ^ -298
+pub square_of_least : HoldsFraction binary64 (1 * 1) (2 ^ 298 * 2 ^ 298)
+square_of_least = record { q = 1; j = 478; small = lit< tt; under = lit< tt; is = refl }
 
-signed_finite : (s : Bool) (x : Float) → T (finite (signed s x)) → T (finite x)
-signed_finite s nan h = h
-signed_finite s (inf t) h = h
-signed_finite s (fin t m e) h = h
-
--- 2 ^ -298
-abbrev least : Float
-least = round binary64 false 1 (2 ^ 298)
-
-least_positive : T (positive least)
-unfolding least round
-least_positive = tt
-
-square_positive : T (positive (mul binary64 least least)) × T (lt plus_zero (mul binary64 least least))
-unfolding least round mul lt
-square_positive = (tt, tt)
-
-positive_above : (x : Float) → T (finite x) → T (above x) → T (positive x)
-positive_above nan f a = absurd f
-positive_above (inf s) f a = absurd f
-positive_above (fin true m e) f a = a
-positive_above (fin false m e) f a = a
-
-apart_square : (d : Float) → T (finite d) → T (finite (mul binary64 d d)) → Apart d → T (lt plus_zero (mul binary64 d d))
-apart_square d p q a =
-    let r = round binary64 false a.above a.below in
-    let is : d ≡ signed a.sign r = a.is ∙ round_signed binary64 a.sign a.above a.below in
-    let real : T (finite r) = signed_finite a.sign r (subst (λ (x : Float). T (finite x)) is p) in
-    let far : T (le least r) = round_mono binary64 1 (2 ^ 298) a.above a.below (pow_pos 298) a.parts (le_trans (le_of_eq (one-mul a.below)) (le_trans a.few (le_trans (le_of_eq (sym (one-mul (2 ^ 298)))) (mul-le-mul_right (2 ^ 298) a.some)))) in
-    let high : T (positive r) = positive_above r real (above_of_le least r least_positive far) in
-    let same : mul binary64 d d ≡ mul binary64 r r = ap (λ (x : Float). mul binary64 x x) is ∙ signed_square binary64 a.sign r real in
-    subst (λ (x : Float). T (lt plus_zero x)) (sym same)
-    (cut_lt plus_zero (mul binary64 least least) (mul binary64 r r) tt (positive-finite _ square_positive.0) (subst (λ (x : Float). T (finite x)) same q) square_positive.1
-    (le_not_lt (mul binary64 least least) (mul binary64 r r) (mul_mono binary64 least r least r least_positive high least_positive high far far)))
-
--- the square of a difference: above zero, unless the two are equal
-pub unequal_square : (x y : Float) → T (fits binary32 x) → T (fits binary32 y) → T (finite x) → T (finite y) → T (finite (sub binary64 x y)) → T (finite (squared_difference x y)) → (T (eq x y) → ⊥) → T (lt plus_zero (squared_difference x y))
-unequal_square x y f g p q d r h = apart_square (sub binary64 x y) d r (difference_apart x y f g p q h)
+-- what is at least some a / c is above zero
+pub above_zero : (x : Float) (a c : ℕ) → 0 < a → NotNegative x → AtLeast x a c → T (le x plus_zero) → ⊥
+unfolding le lt eq
+above_zero nan a c A p h t = p
+above_zero (inf s) a c A p h t = h
+above_zero (fin true m e) a c A p h t = true≢false p
+above_zero (fin false m e) a c A p h t =
+    let none : m * up e * 1 ≤ 0 * down e = or_le (m * up e * 1) (0 * down e) t in
+    let z = zero-mul (down e) in
+    let o = mul-one (m * up e) in
+    let empty : m * up e ≡ 0 = omega (arith, none, z, o) in
+    let all : m * up e * c ≡ 0 = ap (λ (n : ℕ). n * c) empty ∙ zero-mul c in
+    let some = mul-pos A (down_pos e) in
+    omega (arith, some, h, all)
 
 -- ---- of two that are equal
 zero_squared : (s : Bool) → mul binary64 (round binary64 s 0 1) (round binary64 s 0 1) ≡ plus_zero

@@ -5,4 +5,5 @@ pub mod Bound
 pub mod Sign
 pub mod Finite
 pub mod Square
+pub mod Least
 pub mod Apart

@@ -24,7 +24,8 @@ use Rattle.lloyd_alone.specs.Answers.{search_limit}
 use Rattle.lloyd_search.specs.Distance.{distance, vector_of, row_of}
 use Rattle.lloyd_search.proofs.LimitLaw.{power, all_within}
 use Rattle.lloyd_search.proofs.WithinLaw.{all_upto, wider}
-use Rattle.lloyd_search.proofs.FiniteLaw.{sum_to_fits, Bounded}
+use Rattle.ieee.proofs.Least.{sum_to_fits}
+use Rattle.lloyd_search.proofs.FiniteLaw.{Bounded}
 
 -- ---- a fraction that rounds to at most A
 -- x is at most a / c, and that is at most A

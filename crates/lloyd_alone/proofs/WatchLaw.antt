@@ -24,7 +24,8 @@ use Rattle.lloyd_alone.specs.Totals.{every_fourth, sum_of_distances}
 use Rattle.lloyd_alone.specs.Watch.{AllNear, NoNan, Watches, four_sums, watching, passing_two}
 use Rattle.lloyd_search.proofs.LimitLaw.{power}
 use Rattle.lloyd_search.proofs.Fours.{four_more, four_each}
-use Rattle.lloyd_search.proofs.FiniteLaw.{sum_to_fits, distance_fits}
+use Rattle.ieee.proofs.Least.{sum_to_fits}
+use Rattle.lloyd_search.proofs.FiniteLaw.{distance_fits}
 use Rattle.lloyd_alone.proofs.PairLaw.{two_in_order}
 use Rattle.lloyd_alone.proofs.SmallLaw.{NoMinus, add_no_minus, add_parts, sum_to_no_minus, sum_to_parts, lt_upto, distance_no_minus}
 

@@ -10,11 +10,10 @@ use lib.Dec.{lit<, lit≤}
 use lib.IntN.{pos}
 use lib.Pow.{pow-add}
 use lib.Ieee.{Float, binary64, fits, sub, of_int}
-use lib.Ieee.Bits.{is_true}
-use lib.Ieee.Fits.{add-fits}
 use Rattle.ieee.specs.Bounds.{Upto, Holds}
 use Rattle.ieee.specs.Sum.{sum_to, squared_difference}
 use Rattle.ieee.proofs.Bound.{sub_upto, mul_upto, mean_upto, sum_to_upto, upto_finite, upto_mono}
+use Rattle.ieee.proofs.Least.{sum_to_fits}
 use Rattle.ieee.proofs.Whole.{whole_value, value_at_most}
 use Rattle.lloyd_search.specs.Distance.{distance}
 use Rattle.lloyd_search.specs.Nearest.{nearest, mean_error, Least}
@@ -22,11 +21,6 @@ use Rattle.lloyd_search.specs.Finite.{FiniteDistance, FiniteNearest, FiniteMean}
 use Rattle.lloyd_search.proofs.NearestLaw.{first_least_lem}
 
 -- ---- results are values of binary64
-pub sum_to_fits : (t : ℕ → Float) (n : ℕ) → fits binary64 (sum_to t n) ≡ true
-unfolding sum_to fits
-sum_to_fits t zero = refl
-sum_to_fits t (suc n) = is_true _ (add-fits binary64 (sum_to t n) (t n))
-
 pub distance_fits : (k : ℕ) (x y : ℕ → Float) → fits binary64 (distance k x y) ≡ true
 distance_fits k x y = sum_to_fits (λ j. squared_difference (x j) (y j)) k
 

@@ -6,6 +6,7 @@ pub mod TieLaw
 pub mod LimitLaw
 pub mod WithinLaw
 pub mod FiniteLaw
+pub mod SizeLaw
 pub mod Fours
 pub mod Reading
 mod WidenLaw

@@ -12,7 +12,7 @@ use lib.ListN.{length, get_or}
 use lib.Ieee.{Float, nan, inf, fin, up, down, lt, eq, le, neg}
 use lib.Ieee.Fits.{and_l, and_r}
 use borrow.Author.Tests.{not-false}
-use Rattle.error.specs.Numbers.{Outcome, completed, whole}
+use Rattle.error.specs.Numbers.{Value, Outcome, completed, refused, whole}
 use Rattle.error.proofs.Outcomes.{never}
 use Rattle.ieee.specs.Bounds.{Upto}
 use Rattle.ieee.proofs.Value.{holds_true}
@@ -62,3 +62,8 @@ pub passed_bounded : {A : Type 0} (slice : ℕ) (f : Option ℕ) (rest : Outcome
     → (f ≡ None) × (rest ≡ completed r)
 passed_bounded slice None rest r e = (refl, e)
 passed_bounded slice (Some place) rest r e = absurd (never 18 (whole slice ∷ whole place ∷ []) r e)
+
+-- another refusal than 18 comes after it
+pub after_bounded : {A : Type 0} (slice : ℕ) (f : Option ℕ) (rest : Outcome A) (m : ℕ) (us : List Value) → (18 ≡ m → ⊥) → bounded slice f rest ≡ refused m us → rest ≡ refused m us
+after_bounded slice None rest m us o e = e
+after_bounded slice (Some place) rest m us o e = let z : 18 ≡ m = cc in absurd (o z)

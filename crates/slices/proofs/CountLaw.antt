@@ -1,11 +1,12 @@
 -- Whether a test holds somewhere, and how often. Assumes nothing.
-use mathlib.Core.Path.{◌≡◌, refl}
+use mathlib.Core.Path.{◌≡◌, refl, sym, subst}
 use Prim.Native.Nat.{ℕ, zero, suc, ◌+◌, ◌<◌, ◌≤◌}
 use native.Mathlib.Nat.{le_step, lt-suc_self, le_refl}
 use native.Mathlib.Omega.{arith}
 use native.Mathlib.Numerals.{add-one}
 use mathlib.Core.Bool.{Bool, true, false, ◌||◌, cond}
 use lib.Dec.{T}
+use lib.Ieee.Bits.{is_true}
 use Rattle.ieee.proofs.Order.{or_left, or_right}
 use Rattle.slices.specs.First.{some_where, count_where}
 use Rattle.slices.proofs.FirstLaw.{below_suc}
@@ -66,3 +67,22 @@ pub count_ext : (t u : ℕ → Bool) (n : ℕ) → ((i : ℕ) → i < n → t i 
 unfolding count_where
 count_ext t u zero h = refl
 count_ext t u (suc n) h = rw (count_ext t u n (λ i l. h i (le_step l)), h n (lt-suc_self n))
+
+-- where it holds everywhere below n, there are n
+pub count_all : (t : ℕ → Bool) (n : ℕ) → ((i : ℕ) → i < n → T (t i)) → count_where t n ≡ n
+unfolding count_where
+count_all t zero h = refl
+count_all t (suc n) h = rw (count_all t n (λ i l. h i (le_step l)), is_true (t n) (h n (lt-suc_self n))) (omega arith)
+
+-- where there are some, there is one
+abbrev pub Somewhere : (ℕ → Bool) → ℕ → Type 0
+Somewhere t n = (m : ℕ) × (m < n) × T (t m)
+
+counted_next : (t : ℕ → Bool) (n : ℕ) (b : Bool) → t n ≡ b → (0 < count_where t n → Somewhere t n) → 0 < count_where t n + cond b 1 0 → Somewhere t (suc n)
+counted_next t n true e f h = (n, lt-suc_self n, subst T (sym e) tt)
+counted_next t n false e f h = let (m, l, k) = f (omega (arith, h)) in (m, le_step l, k)
+
+pub counted_somewhere : (t : ℕ → Bool) (n : ℕ) → 0 < count_where t n → Somewhere t n
+unfolding count_where
+counted_somewhere t zero h = absurd (omega arith)
+counted_somewhere t (suc n) h = counted_next t n (t n) refl (counted_somewhere t n) h

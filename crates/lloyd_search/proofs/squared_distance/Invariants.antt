@@ -1,5 +1,5 @@
 use Rattle.std.proofs.Common.{◌≡◌}
-use Rattle.lloyd_search.specs.Distance.{distance, vector_of, vector_as}
+use Rattle.lloyd_search.specs.Distance.{distance, vector_as}
 use Rattle.lloyd_search.proofs.squared_distance.Given as goal
 
 abbrev pub invariant-loop-j : goal.invariant-loop-j
