@@ -15,6 +15,7 @@ use Rattle.ieee.specs.Sum.{plus_zero}
 use Rattle.ieee.specs.Bounds.{NotNegative}
 use Rattle.ieee.proofs.Order.{lt_or_not, eq_of_neither}
 use Rattle.profile.specs.declared.EmptyCellPolicy.TheVariants.{SplitHighestDistortion}
+use Rattle.lloyd_search.proofs.SizeLaw.{distance_not_negative}
 use Rattle.lloyd_cells.specs.Cells.{Farthest, farthest}
 use Rattle.lloyd_cells.specs.Repair.{Repaired, donor_to, least_norm, residual_norm, repair_to, Tallied}
 use Rattle.lloyd_cells.proofs.CellsLaw.{first_farthest}
@@ -22,7 +23,6 @@ use Rattle.lloyd_cells.proofs.DonorLaw.{donor_plenty, last_largest}
 use Rattle.lloyd_cells.proofs.TallyLaw.{tallied, tallied_upto}
 use Rattle.lloyd_update.specs.Alone.{Call, update_checks, terms_of}
 use Rattle.lloyd_update.specs.Progress.{samples_of, sample_of, cell_of, old_word_of, start_cells, far_of, distance_of}
-use Rattle.claim_finite.proofs.NormLaw.{squares_not_negative}
 use Rattle.claim_finite.proofs.UpdateLaw.{update_finite}
 use Rattle.claim_rule.specs.Rule.{assigned, takes_part, Donor}
 use Rattle.claim_rule.proofs.StandsLaw.{stands}
@@ -54,7 +54,7 @@ module _ (c : Call) (pass : update_checks c ≡ completed tt) where
   old_distances : (s : ℕ) → s < samples_of c → T (finite (distance_of c s)) × NotNegative (distance_of c s)
   old_distances s l =
       let f = (update_finite c pass).gathered.distances s l in
-      (f.partial_sums c.dim (le_refl c.dim), squares_not_negative c.dim (sample_of c s) (old_word_of c (cell_of c s)) f)
+      (f.partial_sums c.dim (le_refl c.dim), distance_not_negative c.dim (sample_of c s) (old_word_of c (cell_of c s)) f)
 
   module _ (e : ℕ) (r : Repaired) (l : e < c.size) (came : repair_to (terms_of c) (far_of c) (start_cells c) e ≡ completed r) (empty : r.cells.tally e ≡ 0) where
     before : Tallied c.size e (assigned c) r.cells.tally

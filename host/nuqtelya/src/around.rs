@@ -25,9 +25,9 @@ extern "C" {
 /// how many there are.
 ///
 /// A codeword lies within if its squared distance, the one that [`nearest`](crate::nearest) finds for the same values, is at
-/// most the radius times itself, rounded once. So what is at exactly the radius is within, and radius 0 finds the codewords
-/// that equal the block and no others. A radius below zero, which minus zero is not, or not finite is refused by 21, after
-/// all lengths and values.
+/// most the radius times itself, rounded once. Radius 0 finds the codewords that equal the block, plus and minus zero being
+/// equal, and no others. A radius below zero, which minus zero is not, or not finite is refused by 21, after all lengths and
+/// values.
 ///
 /// ```
 /// use nuqtelya::codewords_within;

@@ -149,7 +149,8 @@ impl<'a> Coder<'a> {
     /// their norm, multiplied by the matrix, and each rounded to binary32. Refuses what `encode` refuses.
     ///
     /// Each step is proved. That these steps are what `encode` searches for is not: they are put together here, in Rust,
-    /// and compared with the published encoder's, but for the sign of a zero, which no distance tells.
+    /// and compared with the published encoder's, but for the sign of a zero, which no distance tells. It takes the time of
+    /// an encode and a rotation.
     ///
     /// ```
     /// use nuqtelya::{codewords_within, Coder, Profile};

@@ -129,25 +129,26 @@ double, whatever its length, and with --doubles at most 48 for each double. Earl
 ";
 
 const AROUND: &str = "\
-nuqtelya around --codebook FILE (--vectors FILE [--vector P] [--block I] | --blocks FILE) --radius R
+nuqtelya around --codebook FILE (--vectors FILE [--vector P] [--only I] | --blocks FILE) --radius R
 
-Shows, for each block, how many of the N codewords lie within the radius, and then a line for each of them with its
-number, its squared distance and its distance. The lines of a block are in no promised order.
+Shows, for each block of one vector or of a file, how many of the N codewords lie within the radius, and then a line for
+each of them with its number, its squared distance and its distance. The lines of a block are in no promised order.
 
   --codebook FILE  the codebook
-  --vectors FILE   binary32 values, vector after vector: the blocks of one vector are shown, as encode searches for them
-  --vector P       which vector, counted from 0 (default 0)
-  --block I        only this block of it, counted from 0
+  --vectors FILE   binary32 values, vector after vector: the blocks of one of them are shown, as encode searches for them
+  --vector P       which one, counted from 0 (default 0)
+  --only I         only this block of it, counted from 0
   --blocks FILE    binary32 values, as many for each block as the codebook's have: blocks that are taken as they are
   --radius R       how far, a decimal number
 
 Distances are in the units of the search: before it, a vector is divided by its norm and rotated. So they don't grow with
 the vector, and blocks from a file are compared with the codewords directly.
 
-A codeword is within if its squared distance is at most the radius times itself, rounded once: at exactly the radius it is
-within. Radius 0 finds exact hits only: codewords with the values of the block. A radius that is negative or not finite is
-refused (21); minus zero is zero. If any are shown, the codeword that encode stores for the block is among them. A distance
-that is shown is the root, rounded so that as a radius it finds the codeword again.
+A codeword is within if its squared distance, as the search works it out, is at most the radius times itself, rounded once.
+Radius 0 finds exact hits only: codewords with the values of the block, plus and minus zero being equal; so does a radius
+whose square becomes 0. From 2^512 on, about 1.34e154, the square is infinite and all are within. A radius that is negative
+or not finite is refused (21); minus zero is zero. The nearest codeword, which encode stores for a block of a vector, is
+shown if any is. The distance of a line is the root, rounded so that as a radius it finds the codeword again.
 
 A vector that cannot be encoded is refused as encode refuses it, and a block with a value that is not finite by 18, each
 with its place, counted from 0. Blocks before that are shown.

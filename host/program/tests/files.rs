@@ -295,16 +295,16 @@ fn wrong_use() {
             "around --codebook book --radius 1 --vectors vectors --blocks vectors",
             "one of --vectors and --blocks is needed",
         ),
-        ("around --codebook book --radius 1 --blocks vectors --vector 0", "--vector and --block go with --vectors"),
-        ("around --codebook book --radius 1 --blocks vectors --block 0", "--vector and --block go with --vectors"),
+        ("around --codebook book --radius 1 --blocks vectors --vector 0", "--vector and --only go with --vectors"),
+        ("around --codebook book --radius 1 --blocks vectors --only 0", "--vector and --only go with --vectors"),
         ("around --codebook book --radius 1 --vectors vectors --vector -1", "--vector -1: not a number that fits"),
         (
             "around --codebook book --radius 1 --vectors vectors --vector 100",
             "--vector 100: the file's last is 99, counted from 0",
         ),
         (
-            "around --codebook book --radius 1 --vectors vectors --block 4",
-            "--block 4: a vector's last is 3, counted from 0",
+            "around --codebook book --radius 1 --vectors vectors --only 4",
+            "--only 4: a vector's last block is 3, counted from 0",
         ),
     ] {
         folder.fails(words, 2, said);
@@ -318,7 +318,7 @@ fn wrong_use() {
     assert!(folder.done("train --help").contains("at least 256 and at most 10000000"));
     assert!(folder.done("--help").contains("nuqtelya around "));
     let said = folder.done("around --help");
-    for promise in ["no promised order", "exact hits only", "at exactly the radius it is", "(21); minus zero is zero"] {
+    for promise in ["no promised order", "exact hits only", "rounded once", "refused (21); minus zero is zero"] {
         assert!(said.contains(promise), "{promise}: {said}");
     }
 }
@@ -739,7 +739,7 @@ fn what_lies_around_blocks() {
     let second = [heading(1, 2, "3.0"), line(0, "5.0", root), line(1, "5.0", root)];
     let third = [heading(2, 1, "3.0"), line(0, "0.0", "0.0")];
     says(&[1.0, 0.0, 0.0, 1.0, 2.0, 0.0], "3", &[&first[..], &second, &third].concat());
-    // At exactly the radius, and beyond it.
+    // At the radius, and beyond it.
     says(&[1.0, 0.0], "1", &[heading(0, 1, "1.0"), line(0, "1.0", "1.0")]);
     says(&[1.0, 0.0], "0.9999999999999999", &[heading(0, 0, "0.9999999999999999")]);
     // The square of the root of 13 is smaller, as both are rounded, and that of the next number is not: that one is shown.
@@ -762,13 +762,14 @@ fn what_lies_around_a_vector() {
     let says = |which: &str, said: &[String]| {
         assert_eq!(around(&folder, &format!("--vectors vectors {which} --radius 1.5")), said.concat());
     };
-    let first = [heading(0, 1, "1.5"), line(0, "1.0", "1.0"), heading(1, 0, "1.5")];
+    let heading = |vector: usize, block, count| format!("vector {vector}, {}", heading(block, count, "1.5"));
+    let first = [heading(0, 0, 1), line(0, "1.0", "1.0"), heading(0, 1, 0)];
     says("", &first);
     says("--vector 0", &first);
-    let second = [heading(0, 0, "1.5"), heading(1, 1, "1.5"), line(1, "1.0", "1.0")];
+    let second = [heading(1, 0, 0), heading(1, 1, 1), line(1, "1.0", "1.0")];
     says("--vector 1", &second);
-    says("--vector 1 --block 0", &second[..1]);
-    says("--vector 1 --block 1", &second[1..]);
+    says("--vector 1 --only 0", &second[..1]);
+    says("--vector 1 --only 1", &second[1..]);
     let zeros = "around --codebook book --vectors vectors --vector 2 --radius 1.5";
     folder.fails(zeros, 1, "vectors: vector 2: refused by 13");
 }
@@ -777,7 +778,7 @@ fn what_lies_around_a_vector() {
 fn what_cannot_be_looked_around() {
     let folder = trained("around-refused");
     for radius in ["nan", "inf", "-inf", "-1", "1e999", "-4e-324"] {
-        for source in ["--vectors vectors", "--vectors vectors --vector 99 --block 3", "--blocks vectors"] {
+        for source in ["--vectors vectors", "--vectors vectors --vector 99 --only 3", "--blocks vectors"] {
             let said = "refused by 21: the radius is below zero or not finite";
             folder.fails(&format!("around --codebook book {source} --radius {radius}"), 1, said);
         }
@@ -812,7 +813,7 @@ fn the_chosen_codeword_lies_within() {
             while let Some(line) = lines.next_if(|line| line.starts_with("  codeword ")) {
                 within.push(line);
             }
-            assert_eq!(head, format!("block {block}: {} of 4 codewords within 0.25", within.len()));
+            assert_eq!(head, format!("vector {vector}, block {block}: {} of 4 codewords within 0.25", within.len()));
             assert!(within.is_empty() || within.iter().any(|line| line.starts_with(&format!("  codeword {index}: "))));
             *(if within.is_empty() { &mut none } else { &mut some }) += 1;
         }
