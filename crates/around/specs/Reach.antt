@@ -46,10 +46,14 @@ pub record Reach (q : Query) (radius : Float) : Type 0 where
   pub chosen_within : 0 < count_within q radius → T (within_radius q radius (chosen q))
 
 -- ---- when it is refused
--- 21 comes exactly where 7 and 18 don't and the radius is below zero, as minus zero is not, or not finite
+-- neither 7 nor 18 comes, for a list of so many places
+abbrev pub Passes : Query → ℕ → Type 0
+Passes q places = sound q (eqb places q.size) ≡ completed tt
+
+-- 21 comes exactly where they don't and the radius is below zero, as minus zero is not, or not finite
 pub record Radius (q : Query) (radius : Float) (places : ℕ) : Type 0 where
-  pub below_zero : sound q (eqb places q.size) ≡ completed tt → T (lt radius plus_zero) → around q radius places ≡ refused 21 []
-  pub not_finite : sound q (eqb places q.size) ≡ completed tt → T (not (finite radius)) → around q radius places ≡ refused 21 []
-  pub only : around q radius places ≡ refused 21 [] → (sound q (eqb places q.size) ≡ completed tt) × (T (lt radius plus_zero) ⊎ T (not (finite radius)))
+  pub below_zero : Passes q places → T (lt radius plus_zero) → around q radius places ≡ refused 21 []
+  pub not_finite : Passes q places → T (not (finite radius)) → around q radius places ≡ refused 21 []
+  pub only : around q radius places ≡ refused 21 [] → Passes q places × (T (lt radius plus_zero) ⊎ T (not (finite radius)))
   -- any other is accepted, whatever its square becomes
-  pub others : sound q (eqb places q.size) ≡ completed tt → T (finite radius) → T (not (lt radius plus_zero)) → around q radius places ≡ completed (count_within q radius)
+  pub others : Passes q places → T (finite radius) → T (not (lt radius plus_zero)) → around q radius places ≡ completed (count_within q radius)
