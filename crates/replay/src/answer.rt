@@ -48,7 +48,7 @@ pub fn refusal(reader: &mut Reader<'_>) -> Result<Option<Refused>, Malformed> {
 }
 
 // Whether an answer is the one recorded, of which `read_result` reads the result.
-pub fn is_recorded<'a, T, F>(
+pub(crate) fn is_recorded<'a, T, F>(
     reader: &mut Reader<'a>,
     answer: Result<T, Refusal>,
     read_result: F,
@@ -65,9 +65,27 @@ where
     Ok(answer.map_err(Refused::from) == recorded)
 }
 
+// An output's length (1 byte), and what a call that writes it answers; `out` holds what the call has to leave alone.
+pub(crate) fn lent<T, F, const N: usize>(
+    reader: &mut Reader<'_>,
+    out: &mut [T; N],
+    call: F,
+) -> Result<(usize, Result<(), Refusal>), Malformed>
+where
+    F: FnOnce(&mut [T]) -> Result<(), Refusal>,
+    requires call { F.IsAlwaysCallable call }
+{
+    let len = usize::from(reader.u8()?);
+    let answer = out
+        .get_mut(..len)
+        .ok_or(Refusal::SliceLength(Slice::Output))
+        .and_then(call);
+    Ok((len, answer))
+}
+
 // Whether a call that writes an output answers and writes as recorded: the output's length (1 byte), answer, values.
 // What the call leaves alone holds a pattern before it and has to hold it after.
-pub fn output<T, F, G, const N: usize>(
+pub(crate) fn output<T, F, G, const N: usize>(
     reader: &mut Reader<'_>,
     pattern: [T; N],
     call: F,
@@ -80,12 +98,8 @@ where
     requires call { F.IsAlwaysCallable call }
     requires alike { G.IsAlwaysCallable alike }
 {
-    let len = usize::from(reader.u8()?);
     let mut out = pattern;
-    let lent = out.get_mut(..len);
-    let answer = lent
-        .ok_or(Refusal::SliceLength(Slice::Output))
-        .and_then(call);
+    let (len, answer) = lent(reader, &mut out, call)?;
     let mut expected = pattern;
     let answered = is_recorded(reader, answer, |r| {
         r.values(len, &mut expected).map(|_| ())

@@ -13,7 +13,7 @@ pub fn mse(reader: &mut Reader<'_>) -> Result<bool, Malformed> {
 }
 
 // N (1 byte), k (1), length (1) and values (8 each) of the
-// codewords, the same of the block, answer, index (4), distance (8)
+// codewords, the same of the block, answer, index (4), distance (8), which stand after a refusal too
 pub fn nearest(reader: &mut Reader<'_>) -> Result<bool, Malformed> {
     let size = u64::from(reader.u8()?);
     let dim = u64::from(reader.u8()?);
@@ -26,7 +26,10 @@ pub fn nearest(reader: &mut Reader<'_>) -> Result<bool, Malformed> {
         marked.found.index,
         patterns::f64_bits(marked.found.distance),
     ));
-    answer::is_recorded(reader, found, |r| Ok((r.u32()? as usize, r.u64()?)))
+    let refused = answer::refusal(reader)?;
+    let recorded = (reader.u32()? as usize, reader.u64()?);
+    // The Rust refuses none of these, so a refusal counts as different.
+    Ok(refused.is_none() && found.ok() == Some(recorded))
 }
 
 // N (1 byte), k (1), length (1) and values (8 each) of the

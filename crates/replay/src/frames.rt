@@ -4,7 +4,7 @@ use crate::answer::Refused;
 use crate::reader::{Malformed, Reader};
 
 // width (1 byte), block count (4), norm length (1), norm, length
-// of the indices (1), indices, output length (1), answer, output
+// of the indices (1), indices, output length (1), answer, output, which stands after a refusal too
 pub fn write(reader: &mut Reader<'_>) -> Result<bool, Malformed> {
     let width = reader.u8()?;
     let block_count = reader.u32()?;
@@ -13,7 +13,12 @@ pub fn write(reader: &mut Reader<'_>) -> Result<bool, Malformed> {
     let mut index_room = [0; 64];
     let indices = reader.list(&mut index_room)?;
     let call = |out: &mut [u8]| compact::write_compact(width, block_count, norm, indices, out);
-    answer::output(reader, [0xA5; 64], call, |a, b| a == b)
+    let mut out = [0xA5; 64];
+    let (len, answer) = answer::lent(reader, &mut out, call)?;
+    let refused = answer::refusal(reader)?;
+    let mut expected = [0xA5; 64];
+    reader.values(len, &mut expected)?;
+    Ok(answer.err().map(Refused::from) == refused && out == expected)
 }
 
 // A frame by its parts.
@@ -40,6 +45,10 @@ pub fn parse(reader: &mut Reader<'_>) -> Result<bool, Malformed> {
         .map_err(Refused::from);
     if let Some(refused) = answer::refusal(reader)? {
         return Ok(found == Err(refused));
+    }
+    // Where the call refuses what the Rust did not, the parts are left unread.
+    if found.is_err() {
+        return Ok(false);
     }
     let mut norm_room = [0; 64];
     let mut index_room = [0; 64];

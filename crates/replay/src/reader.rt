@@ -12,7 +12,7 @@ pub enum Malformed {
     NotANumber,
 }
 
-#[derive(Debug, Drop)]
+#[derive(Clone, Copy, Debug)]
 pub struct Reader<'a> {
     rest: &'a [u8],
 }
