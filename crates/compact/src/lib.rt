@@ -32,7 +32,11 @@ pub fn write_part(part: &[u8], output: &mut [u8], at: usize)
         ++ part.now
         ++ drop (at + length part.now) output.old }
 {
-    output[at..at + part.len()].copy_from_slice(part);
+    // Kept: byte by byte here, and value by value where a codebook is copied, since std's copy is C's memmove, which no
+    // archive for C has needed.
+    for (i, byte) in part.iter().enumerate() {
+        output[at + i] = *byte;
+    }
 }
 
 // Writes the first 11 bytes of a frame. Public only for the encoder's crate, which writes its frame in place.

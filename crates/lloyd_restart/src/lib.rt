@@ -9,24 +9,28 @@ ghost use Rattle.narrow.specs.Pack.{narrow_to};
 ghost use Rattle.rotation.specs.Apply.{applied_at};
 
 // The values are copied into the work, from `to` on.
+#[tactic(auto, using(slices::proofs::ListLaw::patched_more), unfolding(slices::specs::Lists::patched))]
 pub fn copy_in(values: &[f64], work: &mut [f64], to: usize)
     requires { to + length values.now ≤ length work.old }
     ensures { work.new
         ≡ patched work.old to (length values.now) (λ i. get_or values.now i nan) }
 {
-    let end = to + values.len();
-    work[to..end].copy_from_slice(values);
+    for (i, value) in values.iter().enumerate() {
+        work[to + i] = *value;
+    }
 }
 
 // `count` values are copied from one part of the work to another.
+#[tactic(auto, using(slices::proofs::ListLaw::patched_more), unfolding(slices::specs::Lists::patched))]
 pub fn copy_part(work: &mut [f64], from: usize, to: usize, count: usize)
     requires { (from + count ≤ length work.old) × (to + count ≤ length work.old)
         × ((to + count ≤ from) ⊎ (from + count ≤ to)) }
     ensures { work.new
         ≡ patched work.old to count (λ i. get_or work.old (from + i) nan) }
 {
-    let end = from + count;
-    work.copy_within(from..end, to);
+    for i in 0..count {
+        work[to + i] = work[from + i];
+    }
 }
 
 // The codewords become the values of the work from `from` on, rounded to binary32.

@@ -238,6 +238,18 @@ pub fn begin_update(
     repair_on(work, counts, slots, 0, t, 0)
 }
 
+// The codebook becomes the first values of the work.
+#[tactic(auto, using(slices::proofs::ListLaw::patched_more), unfolding(slices::specs::Lists::patched))]
+fn copy_words(codebook: &mut [f64], work: &[f64])
+    requires { length codebook.old ≤ length work.now }
+    ensures { codebook.new ≡ take (length codebook.old) work.now }
+{
+    // Kept: a loop, as compact's write_part is one.
+    for (i, word) in codebook.iter_mut().enumerate() {
+        *word = work[i];
+    }
+}
+
 // The end of an update that passed its checks: it writes the codebook where it is accepted, and zeroes the work.
 pub fn finish_update(
     codebook: &mut [f64],
@@ -253,8 +265,7 @@ pub fn finish_update(
     ensures counts { counts.new ≡ replicate (length counts.old) 0 }
 {
     if let Ok(_) = answer {
-        let words = codebook.len();
-        codebook.copy_from_slice(&work[..words]);
+        copy_words(codebook, &*work);
     }
     slices::zero_f64(work);
     slices::zero_u32(counts);
