@@ -10,7 +10,7 @@ use lib.Dec.{lit<, lit≤}
 use lib.IntN.{pos}
 use lib.Pow.{pow-add}
 use lib.Ieee.{Float, binary64, fits, sub, of_int}
-use Rattle.ieee.specs.Bounds.{Upto, Holds}
+use Rattle.ieee.specs.Bounds.{Upto, NotNegative, Holds}
 use Rattle.ieee.specs.Sum.{sum_to, squared_difference}
 use Rattle.ieee.proofs.Bound.{sub_upto, mul_upto, mean_upto, sum_to_upto, upto_finite, upto_mono}
 use Rattle.ieee.proofs.Least.{sum_to_fits}
@@ -19,6 +19,7 @@ use Rattle.lloyd_search.specs.Distance.{distance}
 use Rattle.lloyd_search.specs.Nearest.{nearest, mean_error, Least}
 use Rattle.lloyd_search.specs.Finite.{FiniteDistance, FiniteNearest, FiniteMean}
 use Rattle.lloyd_search.proofs.NearestLaw.{first_least_lem}
+use Rattle.lloyd_search.proofs.SizeLaw.{distance_not_negative}
 
 -- ---- results are values of binary64
 pub distance_fits : (k : ℕ) (x y : ℕ → Float) → fits binary64 (distance k x y) ≡ true
@@ -81,6 +82,9 @@ module _ (b : ℕ) (small : b ≤ 480) where
 
       pub nearest_upto : (x : ℕ → Float) → Bounded b k x → Upto (nearest k n book x).distance (k * 2 ^ (2 * b + 2))
       nearest_upto x h = found (λ (d : Float). Upto d (k * 2 ^ (2 * b + 2))) x h (λ y f. distance_upto x y h f k (le_refl k))
+
+      pub nearest_not_negative : (x : ℕ → Float) → Bounded b k x → NotNegative (nearest k n book x).distance
+      nearest_not_negative x h = found NotNegative x h (λ y f. distance_not_negative k x y (finite_distance x y h f))
 
       pub finite_nearest : (x : ℕ → Float) → Bounded b k x → FiniteNearest k n book x
       finite_nearest x h = record { distances = λ i l. finite_distance x (book i) h (g i l); found = upto_finite (nearest k n book x).distance (k * 2 ^ (2 * b + 2)) (nearest_upto x h) }

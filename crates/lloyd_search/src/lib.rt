@@ -39,8 +39,8 @@ pub const NONE_PASSED: Choice = Choice {
     last: 0,
 };
 
-// A coordinate as it is stored, which stands for a float, its value, that `widen` gives as binary64. The value of
-// `missing` stands past the end of a list.
+// Public only for the crates above: a coordinate as it is stored, which stands for a float, its value, that `widen` gives
+// as binary64. The value of `missing` stands past the end of a list.
 // Kept: `widens`, where f64::from needs no such condition: its test for a NaN cost encode's search 5 to 8 %, one at a time 15 to 40 %.
 pub trait Coordinate: Copy {
     ghost value: { Self → Float };
